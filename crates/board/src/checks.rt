@@ -5,7 +5,7 @@ use crate::Space;
 ghost use mathlib.Core.Path.{_≡_};
 ghost use mathlib.Core.List.{[]};
 ghost use Prim.Native.Nat.{_+_, _≤_, _<_};
-ghost use lib.ListN.{length, take, drop};
+ghost use lib.ListN.{take};
 ghost use Rattle.board.specs.Description.{leftOut, sizeOf};
 ghost use Rattle.board.specs.HouseNumbers.{among, windowHouse, spaceHouse, spacesHouse};
 
@@ -17,21 +17,6 @@ pub fn size_of(space: Space) -> usize
         return 0;
     }
     (space.highest - space.lowest) as usize + 1
-}
-
-// Up to `size` bytes of a store from `start` on.
-pub fn part(store: &[u8], start: usize, size: usize) -> &[u8]
-    ensures { λ r. ⌜ now r ≡ take size (drop start (now (store .entry))) ⌝ }
-{
-    let end = store.len();
-    if end <= start {
-        return &store[end..];
-    }
-    if end - start <= size {
-        return &store[start..];
-    }
-    let stop = start + size;
-    &store[start..stop]
 }
 
 // What is known of a number that is not described.

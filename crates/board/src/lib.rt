@@ -133,7 +133,7 @@ pub fn window<'a>(space: Space, flash: &'a [u8], memory: &'a [u8]) -> &'a [u8]
     let start = space.offset as usize;
     let size = checks::size_of(space);
     if space.in_flash {
-        return checks::part(flash, start, size);
+        return buffer::part(flash, start, size);
     }
-    checks::part(memory, start, size)
+    buffer::part(memory, start, size)
 }

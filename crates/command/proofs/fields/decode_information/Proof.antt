@@ -1,0 +1,15 @@
+-- `decode_information` meets its contract.
+-- Assumes nothing.
+use borrow.Author.Tests.{eq-eqb, ne-eqb}
+use borrow.Author.Needs.{needs}
+use Rattle.command.proofs.fields.decode_information.Statement.{statement}
+use Rattle.command.proofs.fields.decode_information.Tie as tie
+
+returns : tie.Need-returns
+returns c = simp (ne-eqb _ _ (c .if1 .taken))
+
+returns-2 : tie.Need-returns-2
+returns-2 c = simp (eq-eqb _ _ (c .before .if1 .left))
+
+pub decode-information-spec : {M : Type 1} → statement M
+decode-information-spec = tie.close (tie.spec returns (λ c. search needs) returns-2)

@@ -1,0 +1,48 @@
+-- `decode_read` meets its contract: each answer by the law of its case.
+-- Assumes nothing.
+use mathlib.Core.Path.{_≡_, refl, sym, ap, _∙_}
+use native.Mathlib.Omega.{arith}
+use lib.ListN.{length, getD}
+use Rattle.command.specs.Commands.{restOf}
+use Rattle.command.proofs.Laws.{rest-some, read-length, read-none, read-many, read-right}
+use borrow.Author.Needs.{needs}
+use Rattle.command.proofs.fields.decode_read.Statement.{statement}
+use Rattle.command.proofs.fields.decode_read.Tie as tie
+
+returns : tie.Need-returns
+returns c =
+    let a = c .before .before .before .args in
+    read-length (a .datagram .now) (c .before .rest .ensures) (c .if1 .taken)
+
+returns-2 : tie.Need-returns-2
+returns-2 c =
+    let a = c .before .before .before .before .before .args in
+    read-none (a .datagram .now) (c .before .before .before .rest .ensures) (c .before .before .if1 .left) (c .if2 .taken)
+
+returns-3 : tie.Need-returns-3
+returns-3 c =
+    let a = c .before .before .before .before .before .before .args in
+    read-many (a .datagram .now) (c .before .before .before .before .rest .ensures) (c .before .before .before .if1 .left) (c .before .if2 .left) (c .if3 .taken)
+
+target-of-requires : tie.Need-target-of-requires
+target-of-requires c κs =
+    let a = c .before .before .before .before .before .before .args in
+    rest-some (a .datagram .now) (c .before .before .before .before .before .before .pre) (omega (arith, ap length (c .before .before .before .before .rest .ensures)))
+
+returns-4 : tie.Need-returns-4
+returns-4 c =
+    let a = c .before .before .before .before .before .before .before .args in
+    let t = c .target-of .ensures in
+    rw (t .0, t .1, t .2) (read-right (a .datagram .now) (c .before .before .before .before .before .rest .ensures) (c .before .before .before .before .if1 .left) (c .before .before .if2 .left) (c .before .if3 .left))
+
+pub decode-read-spec : {M : Type 1} → statement M
+decode-read-spec =
+    tie.close
+    (tie.spec
+    (λ c κs. search needs)
+    returns
+    (λ c. search needs)
+    returns-2
+    returns-3
+    target-of-requires
+    returns-4)

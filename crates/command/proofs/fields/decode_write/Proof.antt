@@ -1,0 +1,29 @@
+-- `decode_write` meets its contract: each answer by the law of its case.
+-- Assumes nothing.
+use mathlib.Core.Path.{_≡_, refl, sym, ap, _∙_}
+use native.Mathlib.Omega.{arith}
+use lib.ListN.{length, getD}
+use Rattle.command.proofs.Laws.{rest-some, write-none, write-many, write-right}
+use borrow.Author.Needs.{needs}
+use Rattle.command.proofs.fields.decode_write.Statement.{statement}
+use Rattle.command.proofs.fields.decode_write.Tie as tie
+
+returns : tie.Need-returns
+returns c = write-none (c .before .before .before .args .datagram .now) (c .before .rest .ensures) (c .if1 .taken)
+
+returns-2 : tie.Need-returns-2
+returns-2 c = write-many (c .before .before .before .before .args .datagram .now) (c .before .before .rest .ensures) (c .before .if1 .left) (c .if2 .taken)
+
+target-of-requires : tie.Need-target-of-requires
+target-of-requires c κs =
+    let e = c .before .before .before .before in
+    rest-some (e .args .datagram .now) (e .pre) (omega (arith, ap length (c .before .before .rest .ensures), c .before .if1 .left))
+
+returns-3 : tie.Need-returns-3
+returns-3 c =
+    let t = c .target-of .ensures in
+    rw (t .0, t .1, t .2) (write-right (c .before .before .before .before .before .args .datagram .now) (c .before .before .before .rest .ensures) (c .before .before .if1 .left) (c .before .if2 .left))
+
+pub decode-write-spec : {M : Type 1} → statement M
+decode-write-spec =
+    tie.close (tie.spec (λ c κs. search needs) returns returns-2 target-of-requires returns-3)
