@@ -47,6 +47,17 @@ put-over xs ys buffer n q =
 pub over-length : (xs buffer : List ℕ) → length xs ≤ length buffer → length (over xs buffer) ≡ length buffer
 over-length xs buffer h = rw (length-append xs (drop (length xs) buffer), length-drop (length xs) buffer) (omega arith)
 
+-- one piece at the front of a buffer, and two
+pub put-one : (xs buffer : List ℕ) {after : List ℕ} → length xs ≤ length buffer → after ≡ placed 0 xs buffer → after ≡ over xs buffer
+put-one xs buffer h q = q ∙ placed-fits 0 xs buffer (omega arith) ∙ put-first xs buffer
+
+pub put-two : (xs ys buffer : List ℕ) (n : ℕ) {first after : List ℕ} → length xs ≡ n → n + length ys ≤ length buffer →
+    first ≡ placed 0 xs buffer → after ≡ placed n ys first → after ≡ over (xs ++ ys) buffer
+put-two xs ys buffer n {first} e h p q =
+    let f : first ≡ over xs buffer = put-one xs buffer (omega arith) p in
+    let l : length (over xs buffer) ≡ length buffer = over-length xs buffer (omega arith) in
+    q ∙ ap (placed n ys) f ∙ placed-fits n ys (over xs buffer) (omega arith) ∙ put-over xs ys buffer n e
+
 -- ---- what lies before the bytes that were put, behind them, and themselves
 
 pub put-nil : (a : ℕ) (buffer : List ℕ) → putAt a [] buffer ≡ buffer

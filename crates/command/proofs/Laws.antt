@@ -9,7 +9,7 @@ use lib.Dec.{leb, ltb, eqb}
 use lib.ListN.{length, getD, drop, length-drop, drop-of-length-le}
 use borrow.Author.Tests.{eq-eqb, ne-eqb, lt-ltb, le-ltb, le-leb, lt-leb, leb-true, eqb-true}
 use Rattle.buffer.proofs.Choice.{cond-true, cond-false, cond-elim, cond-map, clash, and-left, and-right}
-use Rattle.command.specs.Commands.{Request, read, write, writeMasked, options, information, lock, updateComplete, pairsOf, within, kindOf, formOf, formIn, lowForm, headLength, spaceOf, addressOf, restOf}
+use Rattle.command.specs.Commands.{Request, read, write, writeMasked, options, information, reserve, updateComplete, pairsOf, within, kindOf, formOf, formIn, lowForm, headLength, spaceOf, addressOf, restOf}
 use Rattle.command.specs.Decoding.{Reading, rejected, request, orWrong, countOf, decodeRead, decodeWrite, decodeMasked, decodeKind, decode, requestOf, readingOf, fixed}
 use Rattle.command.specs.declared.Form.{Form}
 use Rattle.command.specs.declared.Form.the-variants.{NoSpace, Byte6, Fd, Fe, Ff}
@@ -200,7 +200,7 @@ Allowed (write s a bytes) = (1 ≤ length bytes) × (length bytes ≤ 64)
 Allowed (writeMasked s a pairs) = (1 ≤ length pairs) × (length pairs ≤ 32)
 Allowed options = Unit {0}
 Allowed (information s) = Unit {0}
-Allowed (lock id) = length id ≡ 6
+Allowed (reserve id) = length id ≡ 6
 Allowed updateComplete = Unit {0}
 
 abbrev pub AllowedIn : Reading → Type 0
@@ -232,7 +232,7 @@ kind-allowed WriteMasked d = orWrong-allowed (leb 1 (length (restOf d)) && (leb 
     (omega arith, omega arith))
 kind-allowed Options d = orWrong-allowed (eqb (length d) 2) NoSpace options (λ _. tt)
 kind-allowed Information d = orWrong-allowed (eqb (length d) 3) NoSpace (information (getD d 2 0)) (λ _. tt)
-kind-allowed Lock d = orWrong-allowed (eqb (length d) 8) NoSpace (lock (drop 2 d)) (λ e. length-drop 2 d ∙ (let l = eqb-true (length d) 8 e in omega arith))
+kind-allowed Lock d = orWrong-allowed (eqb (length d) 8) NoSpace (reserve (drop 2 d)) (λ e. length-drop 2 d ∙ (let l = eqb-true (length d) 8 e in omega arith))
 kind-allowed UpdateComplete d = orWrong-allowed (eqb (length d) 2) NoSpace updateComplete (λ _. tt)
 kind-allowed Unknown d = tt
 

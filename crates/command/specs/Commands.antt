@@ -30,7 +30,7 @@ pub data Request : Type 0 where
   writeMasked : (space address : ℕ) (pairs : List Pair) → Request
   options : Request
   information : (space : ℕ) → Request
-  lock : (id : List ℕ) → Request
+  reserve : (id : List ℕ) → Request
   updateComplete : Request
 
 abbrev pub within : ℕ → ℕ → ℕ → Bool

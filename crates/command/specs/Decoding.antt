@@ -4,7 +4,7 @@ use mathlib.Core.Bool.{Bool, true, false, cond, not, _&&_, _||_}
 use mathlib.Core.List.{List, [], _∷_}
 use lib.Dec.{leb, ltb, eqb}
 use lib.ListN.{length, getD, drop}
-use Rattle.command.specs.Commands.{Request, read, write, writeMasked, options, information, lock, updateComplete, pairsOf, kindOf, formIn, spaceOf, addressOf, restOf}
+use Rattle.command.specs.Commands.{Request, read, write, writeMasked, options, information, reserve, updateComplete, pairsOf, kindOf, formIn, spaceOf, addressOf, restOf}
 use Rattle.command.specs.declared.Form.{Form}
 use Rattle.command.specs.declared.Form.the-variants.{NoSpace}
 use Rattle.command.specs.declared.Kind.{Kind}
@@ -51,7 +51,7 @@ decodeKind Write d = decodeWrite d
 decodeKind WriteMasked d = decodeMasked d
 decodeKind Options d = orWrong (eqb (length d) 2) (request NoSpace options)
 decodeKind Information d = orWrong (eqb (length d) 3) (request NoSpace (information (getD d 2 0)))
-decodeKind Lock d = orWrong (eqb (length d) 8) (request NoSpace (lock (drop 2 d)))
+decodeKind Lock d = orWrong (eqb (length d) 8) (request NoSpace (reserve (drop 2 d)))
 decodeKind UpdateComplete d = orWrong (eqb (length d) 2) (request NoSpace updateComplete)
 decodeKind Unknown d = rejected 0x1041
 
@@ -73,7 +73,7 @@ requestOf (command.Write s a) rest = write s a rest
 requestOf (command.WriteMasked s a) rest = writeMasked s a (pairsOf rest)
 requestOf command.Options rest = options
 requestOf (command.Information s) rest = information s
-requestOf command.Lock rest = lock rest
+requestOf command.Lock rest = reserve rest
 requestOf command.UpdateComplete rest = updateComplete
 
 abbrev pub readingOf : Decoded → List ℕ → Reading

@@ -1,0 +1,3 @@
+pub mod Performing
+pub mod Datagram
+pub mod Inner
