@@ -3,3 +3,5 @@ pub mod PlaceLaws
 pub mod SearchLaws
 pub mod JoinLaws
 pub mod CountLaws
+pub mod StepLaws
+pub mod Order
