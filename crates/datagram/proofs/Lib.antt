@@ -5,3 +5,5 @@ pub mod JoinLaws
 pub mod CountLaws
 pub mod StepLaws
 pub mod Order
+pub mod CutLaws
+pub mod RoundTrip

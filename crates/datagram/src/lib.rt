@@ -6,9 +6,25 @@ ghost use Prim.Native.Nat.{ℕ};
 ghost use Rattle.frame.specs.Frame.{canFrame};
 ghost use Rattle.datagram.specs.Books.{blank};
 ghost use Rattle.datagram.specs.Reception.{state, emptyPlaces, unfinishedFor, receive, Joins};
+ghost use Rattle.datagram.specs.Cutting.{cutOf, CutJoins};
+ghost use Rattle.datagram.specs.Transport.{receivedOk, rejectedWith};
 
+use frame::Frame;
+
+mod cutting;
+mod frames;
 mod places;
 mod unfinished;
+
+// The top five bits of a header whose frame is a whole datagram, and of one whose frame is the first of several.
+const SINGLE: u32 = 0x1A;
+
+const FIRST: u32 = 0x1B;
+
+// The headers of the transport replies, without the board's alias.
+const RECEIVED_OK: u32 = 0x19A28000;
+
+const REJECTED: u32 = 0x19A48000;
 
 // A place for an unfinished datagram: whether it holds one, how many bytes of it are joined, and the source.
 #[repr(C)]
@@ -36,6 +52,21 @@ pub enum Outcome {
 pub struct Joining {
     pub reception: Reception,
     pub outcome: Outcome,
+}
+
+// A datagram cut into frames: the first `count` of `frames`.
+#[repr(C)]
+pub struct Cut {
+    pub refused: bool,
+    pub count: usize,
+    pub frames: [Frame; 9],
+}
+
+// A transport reply as a frame.
+#[repr(C)]
+pub struct TransportReply {
+    pub refused: bool,
+    pub frame: Frame,
 }
 
 // The reception state at the start.
@@ -75,4 +106,59 @@ pub fn join(
     }
     let role = frame::role_of(alias, header, payload.len());
     unfinished::join_part(pool, reception, role, frame::source_of(header), payload)
+}
+
+// Cuts a datagram into frames from the source to the destination. Refused, by B9, with no frame made, where the datagram has more than
+// 72 bytes or an alias is over 4,095.
+pub fn cut_datagram(datagram: &[u8], destination: u16, source: u16) -> Cut
+    ensures cut { λ r. ⌜ r ≡ cutOf (now (datagram .entry)) destination source ⌝ }
+    ensures joins { λ _. ⌜ CutJoins ⌝ }
+{
+    let none = frames::no_frame();
+    let mut parts = [none; 9];
+    if 72 < datagram.len() {
+        return Cut {
+            refused: true,
+            count: 0,
+            frames: parts,
+        };
+    }
+    if !frames::are_aliases(destination, source) {
+        return Cut {
+            refused: true,
+            count: 0,
+            frames: parts,
+        };
+    }
+    if datagram.len() <= 8 {
+        parts[0] = frames::frame_of(frames::header_of(SINGLE, destination, source), datagram);
+        return Cut {
+            refused: false,
+            count: 1,
+            frames: parts,
+        };
+    }
+    parts[0] = frames::frame_of(frames::header_of(FIRST, destination, source), &datagram[..8]);
+    cutting::cut_rest(&datagram[8..], destination, source, parts, 1)
+}
+
+// Received OK with its flags, from the board to a tool. Refused, with no frame made, where an alias is over 4,095: it has no header.
+pub fn received_ok(board: u16, tool: u16, flags: u8) -> TransportReply
+    ensures { λ r. ⌜ r ≡ receivedOk board tool flags ⌝ }
+{
+    let bytes = [(tool / 256) as u8, (tool % 256) as u8, flags];
+    frames::transport_reply(RECEIVED_OK, board, tool, &bytes)
+}
+
+// Rejected with its code, from the board to a tool. Refused, with no frame made, where an alias is over 4,095: it has no header.
+pub fn rejected(board: u16, tool: u16, code: u16) -> TransportReply
+    ensures { λ r. ⌜ r ≡ rejectedWith board tool code ⌝ }
+{
+    let bytes = [
+        (tool / 256) as u8,
+        (tool % 256) as u8,
+        (code / 256) as u8,
+        (code % 256) as u8,
+    ];
+    frames::transport_reply(REJECTED, board, tool, &bytes)
 }
