@@ -13,7 +13,7 @@ use Rattle.frame.specs.Frame.{CanFrame, sourceOf, roleOf}
 use Rattle.frame.proofs.Laws.{source-small}
 use Rattle.datagram.specs.Books.{Book, blank, isUnfinished, Event, ignored, noAnswer, refuse, finish, badState, enterFrame, enterFrames, framesFrom, bookOf}
 use Rattle.datagram.specs.Reception.{State, unfinishedFor, full, receive}
-use Rattle.datagram.specs.Order.{Answer, houseRefusal, ignoredFrame, nothing, transportRefusal, handled, FrameResult, answerEvent, handleFrame, CallsResult, answerFirst, runCalls, eventsAfter, eventsOf, datagramsOf, answersTo, worldAfter, unfinishedBelow, Fresh, AtMostEight, Each, InOrder, OrderStatement}
+use Rattle.datagram.specs.Order.{Answer, houseRefusal, ignoredFrame, nothing, transportRefusal, handled, FrameResult, answerEvent, handleFrame, CallsResult, answerFirst, runCalls, eventsAfter, eventsOf, datagramsOf, answersTo, worldAfter, unfinishedBelow, Fresh, AtMostEight, Each, InOrder, OrderStatement, stateRefused, keep, JoinOrder}
 use Rattle.datagram.proofs.PlaceLaws.{Good, blank-none, none-good}
 use Rattle.datagram.proofs.CountLaws.{not-full}
 use Rattle.datagram.proofs.StepLaws.{Sized, Step, received}
@@ -150,3 +150,8 @@ module _ {C H W A : Type 0} (frameIn : C → CanFrame) (Fine : C → Type 0) (Fi
         same = start .nothing-unfinished;
       }) t h most in
       record { answers = r .answers; world = r .world; unfinished = r .unfinished }
+
+pub join-order : JoinOrder
+join-order alias =
+    order (λ (f : CanFrame). f) (λ (f : CanFrame). Unit {0}) (λ (ds : List (List ℕ)). Unit {0}) stateRefused keep (λ ds d u. tt) alias
+    (handleFrame stateRefused keep alias) (λ st ds f u v. refl)

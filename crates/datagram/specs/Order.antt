@@ -128,3 +128,16 @@ abbrev pub OrderStatement :
 OrderStatement {C} {H} {W} frameIn Fine Fit b7 handle alias one =
     (st : State) (w : W) (cs : List C) → Fresh st → Fit w → Each Fine cs → AtMostEight alias (map frameIn cs)
     → InOrder b7 handle alias w (map frameIn cs) (runCalls one st w cs)
+
+-- The order statement of joining by itself, with a house number of its own for B7 and each finished datagram kept as it is: what is
+-- handed on, and in which order.
+pub data StateRefusal : Type 0 where
+  stateRefused : StateRefusal
+
+abbrev pub keep : List (List ℕ) → List ℕ → List ℕ × List (List ℕ)
+keep ds d = (d, ds ++ d ∷ [])
+
+abbrev pub JoinOrder : Type 0
+JoinOrder =
+    (alias : ℕ)
+    → OrderStatement (λ (f : CanFrame). f) (λ (f : CanFrame). Unit {0}) (λ (ds : List (List ℕ)). Unit {0}) stateRefused keep alias (handleFrame stateRefused keep alias)

@@ -8,7 +8,7 @@ ghost use Rattle.datagram.specs.Books.{blank};
 ghost use Rattle.datagram.specs.Reception.{state, emptyPlaces, unfinishedFor, receive, Joins};
 ghost use Rattle.datagram.specs.Cutting.{cutOf, CutJoins};
 ghost use Rattle.datagram.specs.Transport.{receivedOk, rejectedWith};
-
+ghost use Rattle.datagram.specs.Order.{JoinOrder};
 use frame::Frame;
 
 mod cutting;
@@ -74,11 +74,7 @@ pub fn new_reception() -> Reception
     ensures places { λ r. ⌜ r .places ≡ emptyPlaces ⌝ }
     ensures empty { λ r. ⌜ ((pool : List ℕ) (s : ℕ) → unfinishedFor (state (r .places) pool) s ≡ blank) ⌝ }
 {
-    let free = Place {
-        held: false,
-        len: 0,
-        source: 0,
-    };
+    let free = places::FREE;
     Reception { places: [free; 8] }
 }
 
@@ -90,7 +86,8 @@ pub fn join(
     header: u32,
     payload: &[u8],
 ) -> Joining
-    ensures { λ j. ⌜ Joins (receive alias (state (reception .places) (now (pool .entry))) (canFrame header (now (payload .entry)))) (now (payload .entry)) j (now (pool .exit)) ⌝ }
+    ensures joins { λ j. ⌜ Joins (receive alias (state (reception .places) (now (pool .entry))) (canFrame header (now (payload .entry)))) (now (payload .entry)) j (now (pool .exit)) ⌝ }
+    ensures order { λ _. ⌜ JoinOrder ⌝ }
 {
     if !places::are_sound(reception) {
         return Joining {
@@ -138,7 +135,10 @@ pub fn cut_datagram(datagram: &[u8], destination: u16, source: u16) -> Cut
             frames: parts,
         };
     }
-    parts[0] = frames::frame_of(frames::header_of(FIRST, destination, source), &datagram[..8]);
+    parts[0] = frames::frame_of(
+        frames::header_of(FIRST, destination, source),
+        &datagram[..8],
+    );
     cutting::cut_rest(&datagram[8..], destination, source, parts, 1)
 }
 

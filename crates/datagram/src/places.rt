@@ -6,6 +6,13 @@ ghost use Prim.Native.Nat.{_+_, _≤_, _<_};
 ghost use lib.ListN.{drop, getD, set};
 ghost use Rattle.datagram.specs.Reception.{freePlace, isFor, placeOf, freeIn, soundBefore, sound};
 
+// A free place.
+pub const FREE: Place = Place {
+    held: false,
+    len: 0,
+    source: 0,
+};
+
 // Whether a place holds a datagram of the source.
 fn is_for(p: Place, source: u16) -> bool
     ensures { λ b. ⌜ b ≡ isFor source p ⌝ }

@@ -25,6 +25,11 @@ ghost use Rattle.datagram.specs.Reception.{
   Joins,
 };
 
+// The most bytes that a datagram may have, and the bytes of the pool for each place.
+const LONGEST: usize = 72;
+
+const PLACE_BYTES: usize = 72;
+
 // The codes of the transport refusals.
 const TEMPORARY_ERROR: u16 = 0x2000;
 
@@ -37,12 +42,7 @@ fn drop_refused(r: Reception, i: usize, code: u16) -> Joining
     requires { ⌜ i < 8 ⌝ }
     ensures { λ j. ⌜ (j .reception .places ≡ set (r .places) i freePlace) × (j .outcome ≡ Outcome.Refuse code) ⌝ }
 {
-    let free = Place {
-        held: false,
-        len: 0,
-        source: 0,
-    };
-    let q = places::with_place(r, i, free);
+    let q = places::with_place(r, i, places::FREE);
     Joining {
         reception: q,
         outcome: Outcome::Refuse(code),
@@ -61,7 +61,7 @@ fn open(pool: &mut [u8], r: Reception, source: u16, payload: &[u8]) -> Joining
             outcome: Outcome::Refuse(BUFFER_UNAVAILABLE),
         };
     }
-    buffer::put(pool, 72 * i, payload);
+    buffer::put(pool, PLACE_BYTES * i, payload);
     let p = Place {
         held: true,
         len: payload.len() as u8,
@@ -81,14 +81,14 @@ fn append(pool: &mut [u8], r: Reception, i: usize, source: u16, payload: &[u8]) 
 {
     let p = r.places[i];
     let old = p.len as usize;
-    let new = old + payload.len();
-    if 72 < new {
+    let total = old + payload.len();
+    if LONGEST < total {
         return drop_refused(r, i, TEMPORARY_ERROR);
     }
-    buffer::put(pool, 72 * i + old, payload);
+    buffer::put(pool, PLACE_BYTES * i + old, payload);
     let p = Place {
         held: true,
-        len: new as u8,
+        len: total as u8,
         source: source,
     };
     let q = places::with_place(r, i, p);
@@ -105,20 +105,15 @@ fn close(pool: &mut [u8], r: Reception, i: usize, payload: &[u8]) -> Joining
 {
     let p = r.places[i];
     let old = p.len as usize;
-    let new = old + payload.len();
-    if 72 < new {
+    let total = old + payload.len();
+    if LONGEST < total {
         return drop_refused(r, i, TEMPORARY_ERROR);
     }
-    buffer::put(pool, 72 * i + old, payload);
-    let free = Place {
-        held: false,
-        len: 0,
-        source: 0,
-    };
-    let q = places::with_place(r, i, free);
+    buffer::put(pool, PLACE_BYTES * i + old, payload);
+    let q = places::with_place(r, i, places::FREE);
     Joining {
         reception: q,
-        outcome: Outcome::InPool(72 * i, 72 * i + new),
+        outcome: Outcome::InPool(PLACE_BYTES * i, PLACE_BYTES * i + total),
     }
 }
 

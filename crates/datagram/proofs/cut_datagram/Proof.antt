@@ -72,9 +72,11 @@ returns-4 c =
     let e = c .before .before .before .before .before .before in
     let a = e .before .before .before .before .before .args in
     let fit : aliases (a .destination) (a .source) ≡ true = sym (e .before .are-aliases .ensures) ∙ not-false _ (e .if2 .left) in
-    let made = c .before .before .frame-of2 .ensures ∙ ap (λ (h : ℕ). frameOf h (take 8 (a .datagram .now))) (c .before .before .before .before .header-of2 .ensures) in
-    (c .cut-rest .ensures
-    ∙ rw (e .before .before .before .no-frame .ensures) (cut-several (a .destination) (a .source) (a .datagram .now) fit (c .before .before .frame-of2 .result) made (c .before .before .before .before .before .if3 .left) (omega arith)), cut-joins)
+    let made = c .before .before .frame-of2 .ensures ∙ ap (λ (h : ℕ). frameOf h (take 8 (a .datagram .now))) (c .before .before .before .before .header-of2 .ensures) in (
+      c .cut-rest .ensures
+          ∙ rw (e .before .before .before .no-frame .ensures) (cut-several (a .destination) (a .source) (a .datagram .now) fit (c .before .before .frame-of2 .result) made (c .before .before .before .before .before .if3 .left) (omega arith)),
+      cut-joins,
+    )
 
 pub cut-datagram-spec : {M : Type 1} → statement M
 cut-datagram-spec =
