@@ -1,18 +1,18 @@
 -- Laws of the count of unfinished sources: where every place is held, eight are unfinished, so a ninth finds a free place while at most eight
 -- are.
 -- Assumes nothing.
-use mathlib.Core.Path.{_≡_, refl, sym, ap, _∙_}
+use mathlib.Core.Path.{_≡_, refl, sym, _∙_}
 use mathlib.Core.Logic.{_≢_}
-use mathlib.Core.Bool.{Bool, true, false, cond, _&&_}
+use mathlib.Core.Bool.{Bool, true, false, cond}
 use mathlib.Core.List.{List, [], _∷_}
-use Prim.Native.Nat.{ℕ, zero, suc, _+_, _≤_, _<_}
+use Prim.Native.Nat.{ℕ, zero, suc, _≤_, _<_}
 use native.Mathlib.Omega.{arith}
 use lib.Dec.{eqb}
 use lib.ListN.{length}
 use borrow.Author.Tests.{eqb-true, eqb-false, eq-eqb, ne-eqb}
 use Rattle.datagram.specs.declared.Place.{Place}
 use Rattle.datagram.specs.Books.{Book, blank, isUnfinished}
-use Rattle.datagram.specs.Reception.{isFor, unfinishedIn, hasPlace, full}
+use Rattle.datagram.specs.Reception.{unfinishedIn, hasPlace, full}
 use Rattle.datagram.specs.Order.{unfinishedBelow}
 use Rattle.datagram.proofs.PlaceLaws.{clash, and-left, and-right, isFor-self, isFor-else, Good, unfinished-is}
 

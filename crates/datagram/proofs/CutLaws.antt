@@ -1,20 +1,20 @@
 -- Laws of cutting: a frame's bytes, the rule for the rest by its length, and the frames in the answer.
 -- Assumes nothing.
 use Prim.Native.Nat.{ℕ, suc, _+_, _-_, _*_, _≤_, _<_}
-use mathlib.Core.Path.{_≡_, refl, sym, ap, _∙_}
-use mathlib.Core.Bool.{Bool, true, false, cond, _&&_}
+use mathlib.Core.Path.{_≡_, refl, ap, _∙_}
+use mathlib.Core.Bool.{true, false, cond}
 use mathlib.Core.List.{List, [], _∷_, _++_}
 use native.Mathlib.Nat.{le-of-eq, suc-add, add-suc}
 use native.Mathlib.Numerals.{add-one}
 use native.Mathlib.Omega.{arith}
 use lib.Dec.{leb}
-use lib.ListN.{length, take, drop, set, replicate, length-drop, length-replicate}
+use lib.ListN.{length, take, drop, set, replicate, length-drop}
 use lib.Seq.{sets, sets-eq, take-all}
 use borrow.Author.Tests.{le-leb, lt-leb, leb-true}
-use Rattle.buffer.specs.Buffer.{placed, over}
+use Rattle.buffer.specs.Buffer.{placed}
 use Rattle.buffer.proofs.Laws.{placed-fits, put-first, drop-replicate}
 use Rattle.frame.specs.declared.Frame.{Frame}
-use Rattle.frame.specs.Frame.{headerOf, frameOf}
+use Rattle.frame.specs.Frame.{frameOf}
 use Rattle.datagram.specs.Cutting.{single, first, middle, last, restFrames, framesOf, noFrame, made, whole, notCut, aliases, cutOf}
 use Rattle.datagram.proofs.PlaceLaws.{and-left, and-right}
 

@@ -1,28 +1,27 @@
 -- What each answer of the joining functions owes. The result of a callee is a variable here, with what the callee ensures of it.
 -- Assumes nothing.
 use mathlib.Core.Path.{_≡_, refl, sym, ap, _∙_, subst}
-use mathlib.Core.Bool.{Bool, true, false, cond, _&&_}
-use mathlib.Core.List.{List, [], _∷_, _++_}
-use Prim.Native.Nat.{ℕ, zero, suc, _+_, _-_, _*_, _≤_, _<_}
-use native.Mathlib.Nat.{add-zero, zero-add}
+use mathlib.Core.Bool.{Bool, true, false}
+use mathlib.Core.List.{List, _++_}
+use Prim.Native.Nat.{ℕ, _+_, _-_, _*_, _≤_, _<_}
+use native.Mathlib.Nat.{add-zero}
 use native.Mathlib.Omega.{arith}
-use lib.Dec.{eqb, ltb, leb}
-use lib.ListN.{length, take, drop, getD, set, length-drop}
+use lib.ListN.{length, take, drop, set, length-drop}
 use lib.Seq.{length-take-le}
-use borrow.Author.Tests.{eq-eqb, ne-eqb, le-leb, lt-leb}
+use borrow.Author.Tests.{ne-eqb, le-leb, lt-leb}
 use Rattle.datagram.specs.declared.Place.{Place}
 use Rattle.datagram.specs.declared.Reception.{Reception}
 use Rattle.datagram.specs.declared.Joining.{Joining}
 use Rattle.frame.specs.declared.Role.{Role}
-use Rattle.frame.specs.declared.Role.the-variants.{Ignored, Single, First, Middle, Last}
+use Rattle.frame.specs.declared.Role.the-variants.{Ignored, First, Middle, Last}
 use Rattle.datagram.specs.declared.Outcome.{Outcome}
 use Rattle.datagram.specs.declared.Outcome.the-variants as outcome
 use Rattle.buffer.specs.Buffer.{putAt, placed}
 use Rattle.buffer.proofs.Laws.{placed-fits, take-put, drop-put}
 use Rattle.frame.specs.Frame.{canFrame, sourceOf, addressed, roleOf}
-use Rattle.datagram.specs.Books.{Book, blank, holds, refuse, noAnswer, finish, outOfOrder, temporaryError, bufferUnavailable, fits}
-use Rattle.datagram.specs.Reception.{State, state, heldFor, freePlace, isFor, unfinishedIn, placeOf, freeIn, hasPlace, full, sizeAt, bytesAt, dropped, opened, appended, closed, Joined, joined, middleAt, lastAt, joinRule, joinPart, receive, sound, eventOf, InsidePool, Joins}
-use Rattle.datagram.proofs.PlaceLaws.{clash, isFor-held, good-short, sound-good, place, place-out, free, free-out, blank-of}
+use Rattle.datagram.specs.Books.{blank, holds, refuse, finish, outOfOrder, temporaryError, bufferUnavailable, fits}
+use Rattle.datagram.specs.Reception.{state, heldFor, freePlace, placeOf, freeIn, hasPlace, full, sizeAt, bytesAt, dropped, Joined, joined, middleAt, lastAt, joinRule, joinPart, receive, sound, eventOf, InsidePool, Joins}
+use Rattle.datagram.proofs.PlaceLaws.{isFor-held, good-short, sound-good, place, place-out, free, free-out, blank-of}
 
 abbrev pub joining : Reception → Outcome → Joining
 joining r o = record { reception = r; outcome = o }
@@ -65,7 +64,7 @@ module _ (s : ℕ) (d pool : List ℕ) (r : Reception) (i : ℕ) (l : length (r 
 
 -- ---- appended, and finish
 
-module _ (s i : ℕ) (d pool : List ℕ) (ps : List Place) (l : length pool ≡ 576) (h : i < 8) (k : sizeAt i ps ≤ 72) where
+module _ (i : ℕ) (d pool : List ℕ) (ps : List Place) (l : length pool ≡ 576) (h : i < 8) (k : sizeAt i ps ≤ 72) where
   size-is : length (bytesAt i (state ps pool)) ≡ sizeAt i ps
   size-is = length-take-le (sizeAt i ps) (drop (72 * i) pool) (rw length-drop (omega arith))
 
@@ -75,9 +74,9 @@ module _ (s i : ℕ) (d pool : List ℕ) (ps : List Place) (l : length pool ≡ 
   fits-not : 72 < sizeAt i ps + length d → fits (bytesAt i (state ps pool)) d ≡ false
   fits-not f = rw size-is (lt-leb (sizeAt i ps + length d) 72 f)
 
-  pub append-over : 72 < sizeAt i ps + length d → (j : Joining) → j .reception .places ≡ set ps i freePlace → j .outcome ≡ outcome.Refuse temporaryError →
+  pub append-over : (s : ℕ) → 72 < sizeAt i ps + length d → (j : Joining) → j .reception .places ≡ set ps i freePlace → j .outcome ≡ outcome.Refuse temporaryError →
       Joins (middleAt s i (bytesAt i (state ps pool)) d (state ps pool)) d j pool
-  append-over f j p o = rw (fits-not f) (refused-joins d pool ps j i temporaryError p o)
+  append-over s f j p o = rw (fits-not f) (refused-joins d pool ps j i temporaryError p o)
 
   pub close-over : 72 < sizeAt i ps + length d → (j : Joining) → j .reception .places ≡ set ps i freePlace → j .outcome ≡ outcome.Refuse temporaryError →
       Joins (lastAt i (bytesAt i (state ps pool)) d (state ps pool)) d j pool
@@ -86,9 +85,9 @@ module _ (s i : ℕ) (d pool : List ℕ) (ps : List Place) (l : length pool ≡ 
   put : sizeAt i ps + length d ≤ 72 → placed (72 * i + sizeAt i ps) d pool ≡ putAt (72 * i + sizeAt i ps) d pool
   put f = placed-fits (72 * i + sizeAt i ps) d pool (omega arith)
 
-  pub append-done : sizeAt i ps + length d ≤ 72 → (q : Reception) (after : List ℕ) → q .places ≡ set ps i (heldFor s (sizeAt i ps + length d)) →
+  pub append-done : (s : ℕ) → sizeAt i ps + length d ≤ 72 → (q : Reception) (after : List ℕ) → q .places ≡ set ps i (heldFor s (sizeAt i ps + length d)) →
       after ≡ placed (72 * i + sizeAt i ps) d pool → Joins (middleAt s i (bytesAt i (state ps pool)) d (state ps pool)) d (joining q outcome.NoAnswer) after
-  append-done f q after p a = rw (fits-is f) (record { places = p; pool = a ∙ put f; event = refl; inside = tt })
+  append-done s f q after p a = rw (fits-is f) (record { places = p; pool = a ∙ put f; event = refl; inside = tt })
 
   -- the part of the pool that is the datagram
   whole : sizeAt i ps + length d ≤ 72 → (e : ℕ) → e ≡ 72 * i + (sizeAt i ps + length d) →
@@ -110,35 +109,31 @@ module _ (s i : ℕ) (d pool : List ℕ) (ps : List Place) (l : length pool ≡ 
         inside = (omega arith, omega arith);
       })
 
--- ---- the canFrame of a source whose datagram is in place i
+-- ---- the frame of a source whose datagram is in place i
 
 module _ (role : Role) (s i : ℕ) (d pool : List ℕ) (r : Reception) (q : i ≡ placeOf s (r .places)) where
-  abbrev Owed : Joining → List ℕ → Type 0
-  Owed j after = Joins (joinRule role s d (state (r .places) pool) (holds (bytesAt i (state (r .places) pool)))) d j after
+  abbrev rule : Joined
+  rule = joinRule role s d (state (r .places) pool) (holds (bytesAt i (state (r .places) pool)))
 
-  pub more-ignored : role ≡ Ignored → Owed (joining r outcome.Ignored) pool
+  pub more-ignored : role ≡ Ignored → Joins rule d (joining r outcome.Ignored) pool
   more-ignored e = rw e (stays-joins d pool r outcome.Ignored tt)
 
   module _ (j : Joining) where
-    module _ (p : j .reception .places ≡ set (r .places) i freePlace) (o : j .outcome ≡ outcome.Refuse outOfOrder) where
-      pub more-single : role ≡ Single → Owed j pool
-      more-single e = rw (e, ← q) (refused-joins d pool (r .places) j i outOfOrder p o)
+    pub more-dropped : rule ≡ joined (dropped (placeOf s (r .places)) (state (r .places) pool)) (refuse outOfOrder) →
+        j .reception .places ≡ set (r .places) i freePlace → j .outcome ≡ outcome.Refuse outOfOrder → Joins rule d j pool
+    more-dropped e p o = rw (e, ← q) (refused-joins d pool (r .places) j i outOfOrder p o)
 
-      pub more-first : role ≡ First → Owed j pool
-      more-first e = rw (e, ← q) (refused-joins d pool (r .places) j i outOfOrder p o)
-
-      pub more-empty : role ≡ Middle → length d ≡ 0 → Owed j pool
-      more-empty e z = rw (e, ← q, eq-eqb (length d) 0 z) (refused-joins d pool (r .places) j i outOfOrder p o)
-
-    pub more-middle : role ≡ Middle → (length d ≡ 0 → ⊥) → (after : List ℕ) → Joins (middleAt s i (bytesAt i (state (r .places) pool)) d (state (r .places) pool)) d j after → Owed j after
+    pub more-middle : role ≡ Middle → (length d ≡ 0 → ⊥) → (after : List ℕ) →
+        Joins (middleAt s i (bytesAt i (state (r .places) pool)) d (state (r .places) pool)) d j after → Joins rule d j after
     more-middle e z after g = rw (e, ← q, ne-eqb (length d) 0 z) g
 
-    pub more-last : role ≡ Last → (after : List ℕ) → Joins (lastAt i (bytesAt i (state (r .places) pool)) d (state (r .places) pool)) d j after → Owed j after
+    pub more-last : role ≡ Last → (after : List ℕ) →
+        Joins (lastAt i (bytesAt i (state (r .places) pool)) d (state (r .places) pool)) d j after → Joins rule d j after
     more-last e after g = rw (e, ← q) g
 
 -- ---- by whether the search found a place
 
-module _ (role : Role) (s i : ℕ) (d pool : List ℕ) (ps : List Place) (j : Joining) (after : List ℕ) (l : length ps ≡ 8) (e : i ≡ 0 + placeOf s ps) where
+module _ (s i : ℕ) (pool : List ℕ) (ps : List Place) (l : length ps ≡ 8) (e : i ≡ 0 + placeOf s ps) where
   found : i < 8 → hasPlace s ps ≡ true
   found h = go (hasPlace s ps) refl
     where
@@ -146,25 +141,31 @@ module _ (role : Role) (s i : ℕ) (d pool : List ℕ) (ps : List Place) (j : Jo
       go true u = u
       go false u = absurd (omega (arith, place-out s ps u))
 
+  not-found : 8 ≤ i → hasPlace s ps ≡ false
+  not-found h = go (hasPlace s ps) refl
+    where
+      go : (b : Bool) → hasPlace s ps ≡ b → hasPlace s ps ≡ false
+      go true u = absurd (omega (arith, place s ps pool u .inside))
+      go false u = u
+
   pub found-place : i ≡ placeOf s ps
   found-place = omega arith
 
   pub found-short : i < 8 → sound ps ≡ true → sizeAt i ps ≤ 72
-  found-short h g = rw found-place (good-short ps (placeOf s ps) (sound-good ps g) (isFor-held s _ (place s ps pool (found h) .own)) (place s ps pool (found h) .inside))
+  found-short h g =
+      let p = place s ps pool (found h) in
+      rw found-place (good-short ps (placeOf s ps) (sound-good ps g) (isFor-held s _ (p .own)) (p .inside))
 
-  pub part-more : i < 8 → Joins (joinRule role s d (state ps pool) (holds (bytesAt i (state ps pool)))) d j after → Joins (joinPart role s d (state ps pool)) d j after
-  unfolding joinPart
-  part-more h g = rw (place s ps pool (found h) .bytes, ← found-place) g
+  module _ (role : Role) (d : List ℕ) (j : Joining) (after : List ℕ) where
+    pub part-more : i < 8 → Joins (joinRule role s d (state ps pool) (holds (bytesAt i (state ps pool)))) d j after → Joins (joinPart role s d (state ps pool)) d j after
+    unfolding joinPart
+    part-more h g = rw (place s ps pool (found h) .bytes, ← found-place) g
 
-  pub part-new : 8 ≤ i → Joins (joinRule role s d (state ps pool) blank) d j after → Joins (joinPart role s d (state ps pool)) d j after
-  unfolding joinPart
-  part-new h g = go (hasPlace s ps) refl
-    where
-      go : (b : Bool) → hasPlace s ps ≡ b → Joins (joinRule role s d (state ps pool) (unfinishedIn ps pool s)) d j after
-      go true u = absurd (omega (arith, place s ps pool u .inside))
-      go false u = rw (blank-of s ps pool u) g
+    pub part-new : 8 ≤ i → Joins (joinRule role s d (state ps pool) blank) d j after → Joins (joinPart role s d (state ps pool)) d j after
+    unfolding joinPart
+    part-new h g = rw (blank-of s ps pool (not-found h)) g
 
--- ---- the canFrame
+-- ---- the frame
 
 module _ (alias header : ℕ) (d pool : List ℕ) (r : Reception) where
   pub bad-joins : sound (r .places) ≡ false → Joins (receive alias (state (r .places) pool) (canFrame header d)) d (joining r outcome.BadState) pool

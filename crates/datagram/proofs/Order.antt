@@ -3,7 +3,7 @@
 use Prim.Native.Nat.{ℕ, suc, _≤_}
 use mathlib.Core.Path.{_≡_, refl, sym, ap, _∙_, subst}
 use mathlib.Core.Logic.{_≢_}
-use mathlib.Core.Bool.{Bool, true, false, cond}
+use mathlib.Core.Bool.{Bool, true, false}
 use mathlib.Core.List.{List, [], _∷_, _++_, map, append-assoc, append-nil}
 use lib.Dec.{eqb}
 use lib.ListN.{length, take}
@@ -13,7 +13,7 @@ use Rattle.frame.specs.Frame.{CanFrame, sourceOf, roleOf}
 use Rattle.frame.proofs.Laws.{source-small}
 use Rattle.datagram.specs.Books.{Book, blank, isUnfinished, Event, ignored, noAnswer, refuse, finish, badState, enterFrame, enterFrames, framesFrom, bookOf}
 use Rattle.datagram.specs.Reception.{State, unfinishedFor, full, receive}
-use Rattle.datagram.specs.Order.{Answer, houseRefusal, ignoredFrame, nothing, transportRefusal, handled, FrameResult, answerEvent, handleFrame, CallsResult, answerFirst, runCalls, eventsAfter, eventsOf, datagramsOf, answersTo, worldAfter, unfinishedBelow, Fresh, AtMostEight, Each, InOrder, OrderStatement, stateRefused, keep, JoinOrder}
+use Rattle.datagram.specs.Order.{Answer, houseRefusal, ignoredFrame, nothing, transportRefusal, handled, FrameResult, answerEvent, handleFrame, CallsResult, answerFirst, runCalls, eventsAfter, datagramsOf, answersTo, worldAfter, unfinishedBelow, Each, OrderStatement, stateRefused, keep, JoinOrder}
 use Rattle.datagram.proofs.PlaceLaws.{Good, blank-none, none-good}
 use Rattle.datagram.proofs.CountLaws.{not-full}
 use Rattle.datagram.proofs.StepLaws.{Sized, Step, received}

@@ -1,20 +1,20 @@
 -- Laws of the places: what a sound state is, the place of a source, a free place, and the places and the pool after a change of one place.
 -- Assumes nothing.
-use mathlib.Core.Path.{_≡_, refl, sym, ap, _∙_, subst}
+use mathlib.Core.Path.{_≡_, refl, sym, ap, _∙_}
 use mathlib.Core.Logic.{_≢_}
-use mathlib.Core.Bool.{Bool, true, false, cond, not, _&&_, _||_}
-use mathlib.Core.List.{List, [], _∷_, _++_}
+use mathlib.Core.Bool.{Bool, true, false, not, _&&_}
+use mathlib.Core.List.{List, [], _∷_}
 use Prim.Native.Nat.{ℕ, zero, suc, _+_, _*_, _≤_, _<_}
 use native.Mathlib.Nat.{le-of-suc-le-suc, not-suc-le-zero}
 use native.Mathlib.Omega.{arith}
 use lib.Dec.{leb, eqb}
 use lib.ListN.{length, take, drop, getD, set, length-drop}
 use lib.Seq.{drop-drop}
-use borrow.Author.Tests.{eqb-true, eqb-false, eq-eqb, ne-eqb, le-leb, leb-true, not-true}
+use borrow.Author.Tests.{eqb-true, eq-eqb, ne-eqb, le-leb, leb-true, not-true}
 use Rattle.datagram.specs.declared.Place.{Place}
 use Rattle.buffer.specs.Buffer.{putAt}
 use Rattle.datagram.specs.Books.{Book, blank, holds, isUnfinished}
-use Rattle.datagram.specs.Reception.{heldFor, freePlace, isFor, unfinishedIn, placeOf, freeIn, hasPlace, full, soundBefore, sound}
+use Rattle.datagram.specs.Reception.{freePlace, isFor, unfinishedIn, placeOf, freeIn, hasPlace, full, soundBefore, sound}
 use Rattle.buffer.proofs.Laws.{take-before, drop-behind, drop-put}
 
 -- ---- tests

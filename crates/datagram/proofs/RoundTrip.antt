@@ -3,22 +3,21 @@
 use Prim.Native.Nat.{ℕ, suc, _+_, _-_, _≤_, _<_}
 use mathlib.Core.Path.{_≡_, refl, sym, ap, _∙_, subst}
 use mathlib.Core.Logic.{_≢_}
-use mathlib.Core.Bool.{Bool, true, false, cond}
+use mathlib.Core.Bool.{Bool, true, false}
 use mathlib.Core.List.{List, [], _∷_, _++_, map, append-assoc}
 use native.Mathlib.Nat.{le-of-eq}
 use native.Mathlib.Omega.{arith}
 use lib.Dec.{leb, eqb}
 use lib.ListN.{length, take, drop, replicate, length-append, length-drop, take-append-drop}
 use lib.Seq.{length-take-le, take-append-seam}
-use borrow.Author.Tests.{le-leb, lt-leb, leb-true, leb-false, ne-eqb}
+use borrow.Author.Tests.{le-leb, leb-true, leb-false, ne-eqb}
 use Rattle.frame.specs.declared.Frame.{Frame}
-use Rattle.frame.specs.declared.Role.{Role}
-use Rattle.frame.specs.declared.Role.the-variants.{Ignored, Single, First, Middle, Last}
+use Rattle.frame.specs.declared.Role.the-variants.{First, Middle, Last}
 use Rattle.frame.specs.Frame.{CanFrame, canFrame, sourceOf, kindOf, roleOf, headerOf, frameOf}
 use Rattle.frame.proofs.Laws.{source-of-header, role-of-header}
-use Rattle.datagram.specs.Books.{Book, blank, holds, Event, noAnswer, finish, Entry, fits, bookRule, enterFrame}
-use Rattle.datagram.specs.Reception.{State, unfinishedFor, full, sound, receive, receiveAll}
-use Rattle.datagram.specs.Cutting.{single, first, middle, last, restFrames, framesOf, noFrame, whole, carried, sent, cutOf, CutJoins}
+use Rattle.datagram.specs.Books.{Book, blank, holds, Event, noAnswer, finish, fits, bookRule, enterFrame}
+use Rattle.datagram.specs.Reception.{State, unfinishedFor, full, receive, receiveAll}
+use Rattle.datagram.specs.Cutting.{first, middle, restFrames, framesOf, noFrame, whole, carried, sent, CutJoins}
 use Rattle.datagram.proofs.PlaceLaws.{Good, sound-good}
 use Rattle.datagram.proofs.StepLaws.{Sized, Step, received}
 use Rattle.datagram.proofs.CutLaws.{aliases-are, by-eights, rest-last, rest-more, rest-some, cut-is}

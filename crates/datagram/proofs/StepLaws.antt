@@ -1,12 +1,12 @@
 -- A frame joined to a sound state does at its source what the book's rule says, and leaves every other source's datagram as it was.
 -- Assumes nothing.
-use Prim.Native.Nat.{ℕ, zero, suc, _+_, _*_, _≤_, _<_}
+use Prim.Native.Nat.{ℕ, suc, _+_, _*_, _≤_, _<_}
 use mathlib.Core.Path.{_≡_, refl, sym, ap, _∙_, subst}
 use mathlib.Core.Logic.{_≢_}
-use mathlib.Core.Bool.{Bool, true, false, cond}
-use mathlib.Core.List.{List, [], _∷_, _++_}
+use mathlib.Core.Bool.{Bool, true, false}
+use mathlib.Core.List.{List, [], _++_}
 use native.Mathlib.Omega.{arith}
-use lib.Dec.{leb, eqb}
+use lib.Dec.{eqb}
 use lib.ListN.{length, take, drop, getD, set, length-set, length-drop}
 use lib.Seq.{length-take-le}
 use borrow.Author.Tests.{leb-true}
@@ -18,7 +18,7 @@ use Rattle.frame.specs.Frame.{CanFrame, sourceOf, roleOf}
 use Rattle.frame.proofs.Laws.{role-short, source-small}
 use Rattle.datagram.specs.declared.Place.{Place}
 use Rattle.datagram.specs.Books.{Book, blank, holds, Event, ignored, noAnswer, refuse, finish, outOfOrder, temporaryError, Entry, entry, fits, bookRule, enterFrame}
-use Rattle.datagram.specs.Reception.{State, state, heldFor, freePlace, isFor, unfinishedIn, unfinishedFor, placeOf, freeIn, hasPlace, full, stored, sizeAt, dropped, opened, appended, closed, Joined, joined, joinRule, joinPart, receive, sound}
+use Rattle.datagram.specs.Reception.{State, state, heldFor, freePlace, isFor, unfinishedIn, unfinishedFor, placeOf, freeIn, hasPlace, full, stored, sizeAt, dropped, opened, appended, closed, Joined, joined, joinRule, joinPart, receive}
 use Rattle.datagram.proofs.PlaceLaws.{clash, isFor-self, isFor-held, isFor-free, isFor-not, isFor-else, Good, good-short, good-sound, blank-of, blank-none, holds-some, none-take, none-drop, none-left, PlaceOf, place, place-last, Free, free, Fits, good-set, unfinished-else, unfinished-own}
 
 -- ---- one frame, at one source

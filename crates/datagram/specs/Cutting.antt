@@ -9,7 +9,7 @@ use lib.ListN.{length, take, drop, replicate}
 use Rattle.frame.specs.declared.Frame.{Frame}
 use Rattle.frame.specs.Frame.{CanFrame, canFrame, headerOf, frameOf}
 use Rattle.datagram.specs.declared.Cut.{Cut}
-use Rattle.datagram.specs.Books.{Event, noAnswer, finish, blank}
+use Rattle.datagram.specs.Books.{noAnswer, finish, blank}
 use Rattle.datagram.specs.Reception.{State, sound, full, unfinishedFor, receiveAll}
 
 -- ---- the frames

@@ -1,6 +1,6 @@
 -- `datagram::join` meets its contract.
 -- Assumes nothing.
-use mathlib.Core.Path.{_≡_, sym, _∙_}
+use mathlib.Core.Path.{sym, _∙_}
 use borrow.Author.Needs.{needs}
 use borrow.Author.Tests.{not-true, not-false}
 use Rattle.datagram.proofs.JoinLaws.{bad-joins, long-joins, part-joins}

@@ -4,9 +4,6 @@ use borrow.Author.Needs.{needs}
 use Rattle.datagram.specs.Transport.{receivedOk}
 use Rattle.datagram.proofs.received_ok.Statement.{statement}
 use Rattle.datagram.proofs.received_ok.Tie as tie
-use Rattle.datagram.proofs.received_ok.Reads as reads
-use Rattle.datagram.proofs.received_ok.Lts as lts
-use Rattle.datagram.proofs.frames.transport_reply.Reads as transport-reply-reads
 
 -- src/lib.rt:149:18
 cast-t6 : tie.Need-cast-t6

@@ -4,9 +4,6 @@ use borrow.Author.Needs.{needs}
 use Rattle.datagram.specs.Transport.{rejectedWith}
 use Rattle.datagram.proofs.rejected.Statement.{statement}
 use Rattle.datagram.proofs.rejected.Tie as tie
-use Rattle.datagram.proofs.rejected.Reads as reads
-use Rattle.datagram.proofs.rejected.Lts as lts
-use Rattle.datagram.proofs.frames.transport_reply.Reads as transport-reply-reads
 
 -- src/lib.rt:158:9
 cast-t6 : tie.Need-cast-t6

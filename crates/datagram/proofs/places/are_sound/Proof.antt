@@ -1,16 +1,16 @@
-use mathlib.Core.Path.{_≡_, refl, sym, ap, _∙_}
-use mathlib.Core.Bool.{Bool, true, false}
+-- `datagram::places::are_sound` meets its contract. The invariant: B7 lets the places pass where it lets those from place i on pass.
+-- Assumes nothing.
+use mathlib.Core.Path.{_≡_, refl, sym, _∙_}
 use mathlib.Core.List.{[]}
-use Prim.Native.Nat.{_+_, _-_, _≤_}
+use Prim.Native.Nat.{_-_, _≤_}
 use native.Mathlib.Omega.{arith}
 use borrow.Author.Tests.{not-true, not-false}
-use lib.ListN.{length, drop, getD, length-map, drop-of-length-le}
-use Rattle.datagram.specs.Reception.{soundBefore, sound, freePlace}
+use lib.ListN.{length, drop, length-map, drop-of-length-le}
+use Rattle.datagram.specs.Reception.{sound}
 use borrow.Author.Needs.{needs}
 use Rattle.datagram.proofs.SearchLaws.{sound-here, sound-next}
 use Rattle.datagram.proofs.places.are_sound.Statement.{statement}
 use Rattle.datagram.proofs.places.are_sound.Tie as tie
-use Rattle.datagram.proofs.places.is_sound_at.Reads as is-sound-at-reads
 
 abbrev Inv-loop : tie.InvT-loop
 Inv-loop r i₀ i = (i ≤ 8) × (sound (r .places) ≡ sound (drop i (r .places))) × (length (r .places) ≡ 8)

@@ -1,13 +1,14 @@
+-- `datagram::places::find_free` meets its contract. The invariant: the first free place is the first from place i on.
+-- Assumes nothing.
 use borrow.Author.Tests.{not-true, not-false}
 use native.Mathlib.Nat.{zero-add}
-use mathlib.Core.Path.{_≡_, refl, sym, ap, _∙_}
-use mathlib.Core.Bool.{Bool, true, false}
+use mathlib.Core.Path.{_≡_, sym}
 use Prim.Native.Nat.{_+_, _-_, _≤_}
 use native.Mathlib.Omega.{arith}
 use borrow.Author.Needs.{needs}
-use lib.ListN.{length, drop, getD, length-map, drop-of-length-le}
-use Rattle.datagram.specs.Reception.{isFor, placeOf, freeIn, soundBefore, sound, freePlace}
-use Rattle.datagram.proofs.SearchLaws.{place-here, place-next, free-here, free-next, sound-here, sound-next}
+use lib.ListN.{length, drop, length-map, drop-of-length-le}
+use Rattle.datagram.specs.Reception.{freeIn}
+use Rattle.datagram.proofs.SearchLaws.{free-here, free-next}
 use mathlib.Core.List.{[]}
 use Rattle.datagram.proofs.places.find_free.Statement.{statement}
 use Rattle.datagram.proofs.places.find_free.Tie as tie

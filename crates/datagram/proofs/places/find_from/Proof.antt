@@ -1,15 +1,15 @@
-use mathlib.Core.Path.{_≡_, refl, sym, ap, _∙_}
-use mathlib.Core.Bool.{Bool, true, false}
+-- `datagram::places::find_from` meets its contract. The invariant: the first place of the source is the first from place i on.
+-- Assumes nothing.
+use mathlib.Core.Path.{_≡_, refl, sym, _∙_}
 use Prim.Native.Nat.{_+_, _-_, _≤_}
 use native.Mathlib.Omega.{arith}
 use borrow.Author.Needs.{needs}
-use lib.ListN.{length, drop, getD, length-map, drop-of-length-le}
-use Rattle.datagram.specs.Reception.{isFor, placeOf, freeIn, soundBefore, sound, freePlace}
-use Rattle.datagram.proofs.SearchLaws.{place-here, place-next, free-here, free-next, sound-here, sound-next}
+use lib.ListN.{length, drop, length-map, drop-of-length-le}
+use Rattle.datagram.specs.Reception.{placeOf}
+use Rattle.datagram.proofs.SearchLaws.{place-here, place-next}
 use mathlib.Core.List.{[]}
 use Rattle.datagram.proofs.places.find_from.Statement.{statement}
 use Rattle.datagram.proofs.places.find_from.Tie as tie
-use Rattle.datagram.proofs.places.is_for.Reads as is-for-reads
 
 abbrev Inv-loop : tie.InvT-loop
 Inv-loop from source r i₀ i = (i ≤ 8) × (from + placeOf source (drop from (r .places)) ≡ i + placeOf source (drop i (r .places))) × (length (r .places) ≡ 8)

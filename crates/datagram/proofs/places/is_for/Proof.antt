@@ -1,3 +1,5 @@
+-- `datagram::places::is_for` meets its contract.
+-- Assumes nothing.
 use Rattle.datagram.specs.Reception.{isFor}
 use Rattle.datagram.proofs.places.is_for.Statement.{statement}
 use Rattle.datagram.proofs.places.is_for.Tie as tie

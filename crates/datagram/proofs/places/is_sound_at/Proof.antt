@@ -1,11 +1,11 @@
-use mathlib.Core.Path.{_≡_, refl, sym, ap, _∙_}
-use mathlib.Core.Bool.{Bool, true, false}
-use mathlib.Core.List.{[]}
-use Prim.Native.Nat.{_+_, _-_, _≤_}
+-- `datagram::places::is_sound_at` meets its contract.
+-- Assumes nothing.
+use mathlib.Core.Path.{_≡_, sym, _∙_}
+use Prim.Native.Nat.{_+_}
 use native.Mathlib.Omega.{arith}
 use borrow.Author.Tests.{not-true, not-false}
-use lib.ListN.{length, drop, getD, length-map, drop-of-length-le}
-use Rattle.datagram.specs.Reception.{soundBefore, sound, freePlace}
+use lib.ListN.{length, drop, getD, length-map}
+use Rattle.datagram.specs.Reception.{freePlace}
 use Rattle.datagram.proofs.SearchLaws.{before-free, before-long, before-wide, before-rest, found-none}
 use borrow.Author.Needs.{needs}
 use Rattle.datagram.proofs.places.is_sound_at.Statement.{statement}

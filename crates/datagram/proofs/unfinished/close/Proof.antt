@@ -1,22 +1,24 @@
-use mathlib.Core.Path.{_≡_, refl, sym, ap, _∙_}
-use Prim.Native.Nat.{_+_, _-_, _*_, _≤_}
+-- `datagram::unfinished::close` meets its contract.
+-- Assumes nothing.
 use native.Mathlib.Omega.{arith}
-use lib.ListN.{length, length-map}
 use Rattle.datagram.proofs.JoinLaws.{close-over, close-done}
 use borrow.Author.Needs.{needs}
 use Rattle.datagram.proofs.unfinished.close.Statement.{statement}
 use Rattle.datagram.proofs.unfinished.close.Tie as tie
-use Rattle.datagram.proofs.unfinished.drop_refused.Reads as drop-refused-reads
-use Rattle.buffer.proofs.put.Reads as put-reads
-use Rattle.datagram.proofs.places.with_place.Reads as with-place-reads
 
 returns : tie.Need-returns
-returns c = let a = c .before .before .before .before .before .before .args in
-    close-over 0 (a .i) (a .payload .now) (a .pool .now) (a .t2 .places) (c .before .before .before .before .before .before .pre .0) (omega arith) (c .before .before .before .before .before .before .pre .3) (c .before .if1 .taken) (c .drop-refused .result) (c .drop-refused .ensures .0) (c .drop-refused .ensures .1)
+returns c =
+    let e = c .before .before .before .before .before .before in
+    let a = e .args in
+    close-over (a .i) (a .payload .now) (a .pool .now) (a .t2 .places) (e .pre .0) (e .pre .2) (e .pre .3) (c .before .if1 .taken)
+    (c .drop-refused .result) (c .drop-refused .ensures .0) (c .drop-refused .ensures .1)
 
 returns-2 : tie.Need-returns-2
-returns-2 c = let a = c .before .before .before .before .before .before .before .before .before .before .args in
-    close-done 0 (a .i) (a .payload .now) (a .pool .now) (a .t2 .places) (c .before .before .before .before .before .before .before .before .before .before .pre .0) (omega arith) (c .before .before .before .before .before .before .before .before .before .before .pre .3) (omega arith) (c .with-place .result) _ _ (c .with-place .ensures) (c .before .before .before .put .ensures) (omega arith)
+returns-2 c =
+    let e = c .before .before .before .before .before .before .before .before .before .before in
+    let a = e .args in
+    close-done (a .i) (a .payload .now) (a .pool .now) (a .t2 .places) (e .pre .0) (e .pre .2) (e .pre .3) (omega arith)
+    (c .with-place .result) _ _ (c .with-place .ensures) (c .before .before .before .put .ensures) (omega arith)
 
 pub close-spec : {M : Type 1} → statement M
 close-spec =
