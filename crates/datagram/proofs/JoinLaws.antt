@@ -20,7 +20,7 @@ use Rattle.buffer.specs.Buffer.{putAt, placed}
 use Rattle.buffer.proofs.Laws.{placed-fits, take-put, drop-put}
 use Rattle.frame.specs.Frame.{canFrame, sourceOf, addressed, roleOf}
 use Rattle.datagram.specs.Books.{blank, holds, refuse, finish, outOfOrder, temporaryError, bufferUnavailable, fits}
-use Rattle.datagram.specs.Reception.{state, heldFor, freePlace, placeOf, freeIn, hasPlace, full, sizeAt, bytesAt, dropped, Joined, joined, middleAt, lastAt, joinRule, joinPart, receive, sound, eventOf, InsidePool, Joins}
+use Rattle.datagram.specs.Reception.{state, heldFor, freePlace, placeOf, freeIn, hasPlace, full, sizeAt, bytesAt, dropped, Joined, joined, whereFits, middleAt, lastAt, joinRule, joinPart, receive, sound, eventOf, InsidePool, Joins}
 use Rattle.datagram.proofs.PlaceLaws.{isFor-held, good-short, sound-good, place, place-out, free, free-out, blank-of}
 
 abbrev pub joining : Reception → Outcome → Joining
@@ -74,13 +74,9 @@ module _ (i : ℕ) (d pool : List ℕ) (ps : List Place) (l : length pool ≡ 57
   fits-not : 72 < sizeAt i ps + length d → fits (bytesAt i (state ps pool)) d ≡ false
   fits-not f = rw size-is (lt-leb (sizeAt i ps + length d) 72 f)
 
-  pub append-over : (s : ℕ) → 72 < sizeAt i ps + length d → (j : Joining) → j .reception .places ≡ set ps i freePlace → j .outcome ≡ outcome.Refuse temporaryError →
-      Joins (middleAt s i (bytesAt i (state ps pool)) d (state ps pool)) d j pool
-  append-over s f j p o = rw (fits-not f) (refused-joins d pool ps j i temporaryError p o)
-
-  pub close-over : 72 < sizeAt i ps + length d → (j : Joining) → j .reception .places ≡ set ps i freePlace → j .outcome ≡ outcome.Refuse temporaryError →
-      Joins (lastAt i (bytesAt i (state ps pool)) d (state ps pool)) d j pool
-  close-over f j p o = rw (fits-not f) (refused-joins d pool ps j i temporaryError p o)
+  pub over-joins : 72 < sizeAt i ps + length d → (x : Joined) (j : Joining) → j .reception .places ≡ set ps i freePlace → j .outcome ≡ outcome.Refuse temporaryError →
+      Joins (whereFits i (bytesAt i (state ps pool)) d (state ps pool) x) d j pool
+  over-joins f x j p o = rw (fits-not f) (refused-joins d pool ps j i temporaryError p o)
 
   put : sizeAt i ps + length d ≤ 72 → placed (72 * i + sizeAt i ps) d pool ≡ putAt (72 * i + sizeAt i ps) d pool
   put f = placed-fits (72 * i + sizeAt i ps) d pool (omega arith)

@@ -115,12 +115,16 @@ pub record Joined : Type 0 where
 abbrev pub joined : State → Event → Joined
 joined st e = record { state = st; event = e }
 
--- "Middle or Last that takes the total past 72 bytes: 0x2000, dropped": a Middle and a Last for the datagram in place i, which holds b.
+-- "Middle or Last that takes the total past 72 bytes: 0x2000, dropped": where the datagram b in place i and the data d fit, j.
+abbrev pub whereFits : ℕ → List ℕ → List ℕ → State → Joined → Joined
+whereFits i b d st j = cond (fits b d) j (joined (dropped i st) (refuse temporaryError))
+
+-- A Middle and a Last for the datagram b in place i.
 abbrev pub middleAt : ℕ → ℕ → List ℕ → List ℕ → State → Joined
-middleAt s i b d st = cond (fits b d) (joined (appended s d i st) noAnswer) (joined (dropped i st) (refuse temporaryError))
+middleAt s i b d st = whereFits i b d st (joined (appended s d i st) noAnswer)
 
 abbrev pub lastAt : ℕ → List ℕ → List ℕ → State → Joined
-lastAt i b d st = cond (fits b d) (joined (closed d i st) (finish (b ++ d))) (joined (dropped i st) (refuse temporaryError))
+lastAt i b d st = whereFits i b d st (joined (closed d i st) (finish (b ++ d)))
 
 -- The rules, by what the frame is to the board, its source and data, and what the state has for that source.
 -- "Single, none unfinished from that source: a datagram, its own last frame."

@@ -1,7 +1,7 @@
 -- `datagram::unfinished::append` meets its contract.
 -- Assumes nothing.
 use native.Mathlib.Omega.{arith}
-use Rattle.datagram.proofs.JoinLaws.{append-over, append-done}
+use Rattle.datagram.proofs.JoinLaws.{over-joins, append-done}
 use borrow.Author.Needs.{needs}
 use Rattle.datagram.proofs.unfinished.append.Statement.{statement}
 use Rattle.datagram.proofs.unfinished.append.Tie as tie
@@ -10,7 +10,7 @@ returns : tie.Need-returns
 returns c =
     let e = c .before .before .before .before .before .before in
     let a = e .args in
-    append-over (a .i) (a .payload .now) (a .pool .now) (a .t2 .places) (e .pre .0) (e .pre .2) (e .pre .3) (a .source) (c .before .if1 .taken)
+    over-joins (a .i) (a .payload .now) (a .pool .now) (a .t2 .places) (e .pre .0) (e .pre .2) (e .pre .3) (c .before .if1 .taken) _
     (c .drop-refused .result) (c .drop-refused .ensures .0) (c .drop-refused .ensures .1)
 
 returns-2 : tie.Need-returns-2
