@@ -47,7 +47,7 @@ one-less (suc n) s book h p = go (eqb s n) refl (one-less n s book)
         let q : s ≢ n = eqb-false s n e in
         rw (without-else s book n q) (omega (arith, ih (omega (arith, q)) p))
 
--- each of the full places is of another source
+-- each of the held places is of another source
 pub counted : (ps : List Place) (book : ℕ → Book) → Good ps → full ps ≡ true → ((t : ℕ) → hasPlace t ps ≡ true → isUnfinished (book t) ≡ true) →
     length ps ≤ unfinishedBelow 4096 book
 counted [] book g f h = omega arith
@@ -62,7 +62,7 @@ counted (p ∷ ps) book g f h =
     rw (without-else (p .source) book t n) (h t (rw (isFor-else t p n) a))) in
     omega (arith, one-less 4096 (p .source) book l o)
 
--- a place is free for s: eight places in use, and s, would be nine sources
+-- a place is free for s: eight held places, and s, would be nine sources
 pub not-full : (ps : List Place) (pool : List ℕ) (s : ℕ) (book : ℕ → Book) → Good ps → length ps ≡ 8 → hasPlace s ps ≡ false → s ≤ 4095 →
     ((t : ℕ) → s ≢ t → book t ≡ unfinishedIn ps pool t) → isUnfinished (book s) ≡ true → unfinishedBelow 4096 book ≤ 8 → full ps ≡ false
 not-full ps pool s book g l h k o u m = go (full ps) refl

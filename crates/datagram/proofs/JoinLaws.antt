@@ -20,7 +20,7 @@ use Rattle.buffer.specs.Buffer.{putAt, placed}
 use Rattle.buffer.proofs.Laws.{placed-fits, take-put, drop-put}
 use Rattle.frame.specs.Frame.{canFrame, sourceOf, addressed, roleOf}
 use Rattle.datagram.specs.Books.{blank, holds, refuse, finish, outOfOrder, temporaryError, bufferUnavailable, fits}
-use Rattle.datagram.specs.Reception.{state, heldFor, freePlace, placeOf, freeIn, hasPlace, full, sizeAt, bytesAt, dropped, Joined, joined, whereFits, middleAt, lastAt, joinRule, joinPart, receive, sound, eventOf, InsidePool, Joins}
+use Rattle.datagram.specs.Reception.{state, heldFor, freePlace, placeOf, freeIn, hasPlace, full, sizeAt, bytesAt, dropped, Joined, joined, whereFits, middleAt, lastAt, joinRule, joinSound, receive, sound, eventOf, InsidePool, Joins}
 use Rattle.datagram.proofs.PlaceLaws.{isFor-held, good-short, sound-good, place, place-out, free, free-out, blank-of}
 
 abbrev pub joining : Reception → Outcome → Joining
@@ -42,7 +42,7 @@ module _ (d pool : List ℕ) (ps : List Place) where
     inside = subst (λ (x : Outcome). InsidePool x) (sym o) tt;
   }
 
--- ---- begun
+-- ---- opened
 
 module _ (s : ℕ) (d pool : List ℕ) (r : Reception) (i : ℕ) (l : length (r .places) ≡ 8) (e : i ≡ freeIn (r .places)) where
   pub open-full : 8 ≤ i → Joins (joinRule First s d (state (r .places) pool) blank) d (joining r (outcome.Refuse bufferUnavailable)) pool
@@ -62,7 +62,7 @@ module _ (s : ℕ) (d pool : List ℕ) (r : Reception) (i : ℕ) (l : length (r 
           rw (u, ← e, add-zero)
           (record { places = p; pool = a ∙ placed-fits (72 * i) d pool (omega arith); event = refl; inside = tt })
 
--- ---- appended, and finish
+-- ---- appended to, and closed
 
 module _ (i : ℕ) (d pool : List ℕ) (ps : List Place) (l : length pool ≡ 576) (h : i < 8) (k : sizeAt i ps ≤ 72) where
   size-is : length (bytesAt i (state ps pool)) ≡ sizeAt i ps
@@ -153,13 +153,13 @@ module _ (s i : ℕ) (pool : List ℕ) (ps : List Place) (l : length ps ≡ 8) (
       rw found-place (good-short ps (placeOf s ps) (sound-good ps g) (isFor-held s _ (p .own)) (p .inside))
 
   module _ (role : Role) (d : List ℕ) (j : Joining) (after : List ℕ) where
-    pub part-more : i < 8 → Joins (joinRule role s d (state ps pool) (holds (bytesAt i (state ps pool)))) d j after → Joins (joinPart role s d (state ps pool)) d j after
-    unfolding joinPart
-    part-more h g = rw (place s ps pool (found h) .bytes, ← found-place) g
+    pub found-joins : i < 8 → Joins (joinRule role s d (state ps pool) (holds (bytesAt i (state ps pool)))) d j after → Joins (joinSound role s d (state ps pool)) d j after
+    unfolding joinSound
+    found-joins h g = rw (place s ps pool (found h) .bytes, ← found-place) g
 
-    pub part-new : 8 ≤ i → Joins (joinRule role s d (state ps pool) blank) d j after → Joins (joinPart role s d (state ps pool)) d j after
-    unfolding joinPart
-    part-new h g = rw (blank-of s ps pool (not-found h)) g
+    pub not-found-joins : 8 ≤ i → Joins (joinRule role s d (state ps pool) blank) d j after → Joins (joinSound role s d (state ps pool)) d j after
+    unfolding joinSound
+    not-found-joins h g = rw (blank-of s ps pool (not-found h)) g
 
 -- ---- the frame
 
@@ -170,10 +170,10 @@ module _ (alias header : ℕ) (d pool : List ℕ) (r : Reception) where
 
   module _ (e : sound (r .places) ≡ true) where
     pub long-joins : 8 < length d → Joins (receive alias (state (r .places) pool) (canFrame header d)) d (joining r outcome.Ignored) pool
-    unfolding receive joinPart roleOf addressed
+    unfolding receive joinSound roleOf addressed
     long-joins h = rw (e, lt-leb (length d) 8 h) (stays-joins d pool r outcome.Ignored tt)
 
-    pub part-joins : (role : Role) (s : ℕ) (j : Joining) (after : List ℕ) → role ≡ roleOf alias header (length d) → s ≡ sourceOf header →
-        Joins (joinPart role s d (state (r .places) pool)) d j after → Joins (receive alias (state (r .places) pool) (canFrame header d)) d j after
+    pub sound-joins : (role : Role) (s : ℕ) (j : Joining) (after : List ℕ) → role ≡ roleOf alias header (length d) → s ≡ sourceOf header →
+        Joins (joinSound role s d (state (r .places) pool)) d j after → Joins (receive alias (state (r .places) pool) (canFrame header d)) d j after
     unfolding receive
-    part-joins role s j after u v g = rw (e, ← u, ← v) g
+    sound-joins role s j after u v g = rw (e, ← u, ← v) g

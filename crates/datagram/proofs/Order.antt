@@ -89,7 +89,7 @@ module _ (alias : ℕ) (past : List CanFrame) (f : CanFrame) (st : State) (inv :
 module _ {C H W A : Type 0} (frameIn : C → CanFrame) (Fine : C → Type 0) (Fit : W → Type 0) (b7 : H) (handle : W → List ℕ → A × W)
     (kept : (w : W) (d : List ℕ) → Fit w → Fit (handle w d .1)) (alias : ℕ) (one : State → W → C → FrameResult H W A)
     (same : (st : State) (w : W) (c : C) → Fit w → Fine c → one st w c ≡ handleFrame b7 handle alias st w (frameIn c)) where
-  -- what is shown of the calls cs after the frames of earlier ones
+  -- what is shown of a list of calls, by the events of their frames and the books after them
   record Result (r : CallsResult H W A) (w : W) (es : List Event) (book : ℕ → Book) : Type 0 where
     answers : r .answers ≡ answersTo b7 handle w es
     world : r .world ≡ worldAfter handle w (datagramsOf es)

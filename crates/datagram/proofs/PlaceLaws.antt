@@ -97,7 +97,7 @@ good-short [] i g u h = absurd (omega arith)
 good-short (q ∷ ps) zero g u h = g .0 u .short
 good-short (q ∷ ps) (suc i) g u h = good-short ps i (g .1) u (omega arith)
 
--- ---- which sources have something, from the places alone
+-- ---- which sources have an unfinished datagram, from the places alone
 
 pub unfinished-is : (s : ℕ) (ps : List Place) (pool : List ℕ) → isUnfinished (unfinishedIn ps pool s) ≡ hasPlace s ps
 unfinished-is s [] pool = refl
@@ -213,7 +213,7 @@ none-left s i p [] a b n = refl
 none-left s zero p (q ∷ ps) a b n = rw n b
 none-left s (suc i) p (q ∷ ps) a b n = rw (none-head s q (take i ps) a) (none-left s i p ps (none-tail s q (take i ps) a) b n)
 
--- p is in use, if at all, for s, and is short
+-- p is held, if at all, for s, and is short
 abbrev pub Fits : ℕ → Place → Type 0
 Fits s p = p .held ≡ true → (p .len ≤ 72) × (p .source ≤ 4095) × (p .source ≡ s)
 

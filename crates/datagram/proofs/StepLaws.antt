@@ -18,7 +18,7 @@ use Rattle.frame.specs.Frame.{CanFrame, sourceOf, roleOf}
 use Rattle.frame.proofs.Laws.{role-short, source-small}
 use Rattle.datagram.specs.declared.Place.{Place}
 use Rattle.datagram.specs.Books.{Book, blank, holds, Event, ignored, noAnswer, refuse, finish, outOfOrder, temporaryError, Entry, entry, fits, bookRule, enterFrame}
-use Rattle.datagram.specs.Reception.{State, state, heldFor, freePlace, isFor, unfinishedIn, unfinishedFor, placeOf, freeIn, hasPlace, full, stored, sizeAt, dropped, opened, appended, closed, Joined, joined, joinRule, joinPart, receive}
+use Rattle.datagram.specs.Reception.{State, state, heldFor, freePlace, isFor, unfinishedIn, unfinishedFor, placeOf, freeIn, hasPlace, full, stored, sizeAt, dropped, opened, appended, closed, Joined, joined, joinRule, joinSound, receive}
 use Rattle.datagram.proofs.PlaceLaws.{clash, isFor-self, isFor-held, isFor-free, isFor-not, isFor-else, Good, good-short, good-sound, blank-of, blank-none, holds-some, none-take, none-drop, none-left, PlaceOf, place, place-last, Free, free, Fits, good-set, unfinished-else, unfinished-own}
 
 -- ---- one frame, at one source
@@ -67,7 +67,7 @@ module _ (ps : List Place) (pool : List ℕ) (s : ℕ) (g : Good ps) (z : Sized 
   at : PlaceOf s ps pool (placeOf s ps)
   at = place s ps pool (holds-some s ps pool b e)
 
-  -- the bytes of the place are those unfinished
+  -- the bytes of the place are those of the unfinished datagram
   bytes-are : take (sizeAt (placeOf s ps) ps) (drop (72 * placeOf s ps) pool) ≡ b
   bytes-are = let q : holds (take (sizeAt (placeOf s ps) ps) (drop (72 * placeOf s ps) pool)) ≡ holds b = sym (at .bytes) ∙ e in cc
 
@@ -162,11 +162,11 @@ step Last s d ps pool (holds b) g z h m l r = go (fits b d) refl
     go true e = rw e (closes ps pool s g z b h d (finish (b ++ d)) (fits-le b d e))
     go false e = rw e (drops ps pool s g z b h (refuse temporaryError))
 
--- a frame received by a sound state with a free place, where the frame opens a datagram
+-- a frame received by a sound state, which has a free place where the frame opens a datagram
 pub received : (alias : ℕ) (f : CanFrame) (st : State) → Good (st .places) → Sized st →
     (roleOf alias (f .header) (length (f .payload)) ≡ First → unfinishedFor st (sourceOf (f .header)) ≡ blank → full (st .places) ≡ false) →
     Step st (sourceOf (f .header)) (receive alias st f) (enterFrame alias f (unfinishedFor st (sourceOf (f .header))))
-unfolding receive joinPart
+unfolding receive joinSound
 received alias f st g z room =
     rw (good-sound (st .places) g)
     (step (roleOf alias (f .header) (length (f .payload))) (sourceOf (f .header)) (f .payload) (st .places) (st .pool) (unfinishedFor st (sourceOf (f .header))) g z refl

@@ -104,7 +104,7 @@ pub record Fresh (st : State) : Type 0 where
   pub bytes : length (st .pool) ≡ 576
   pub nothing-unfinished : (s : ℕ) → unfinishedFor st s ≡ blank
 
--- After each of the frames at most eight sources are unfinished by their books: one with twelve bits has an alias below 4,096.
+-- After each of the frames at most eight sources are unfinished by their books: an alias has 12 bits, so it is below 4,096.
 abbrev pub AtMostEight : ℕ → List CanFrame → Type 0
 AtMostEight alias fs = (n : ℕ) → unfinishedBelow 4096 (bookOf alias (take n fs)) ≤ 8
 

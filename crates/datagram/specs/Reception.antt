@@ -144,15 +144,15 @@ joinRule Middle s d st (holds b) =
 joinRule Last s d st blank = joined st (refuse outOfOrder)
 joinRule Last s d st (holds b) = lastAt (placeOf s (st .places)) b d st
 
--- A frame of a known role joined to a sound state.
-unfoldable pub joinPart : Role → ℕ → List ℕ → State → Joined
-joinPart role s d st = joinRule role s d st (unfinishedFor st s)
+-- A frame of a known role joined to a state that B7 lets pass.
+unfoldable pub joinSound : Role → ℕ → List ℕ → State → Joined
+joinSound role s d st = joinRule role s d st (unfinishedFor st s)
 
 -- A frame received. B7 comes first, "checked first at each call": "The state comes back as it was."
 unfoldable pub receive : ℕ → State → CanFrame → Joined
 receive alias st f =
     cond (sound (st .places))
-    (joinPart (roleOf alias (f .header) (length (f .payload))) (sourceOf (f .header)) (f .payload) st)
+    (joinSound (roleOf alias (f .header) (length (f .payload))) (sourceOf (f .header)) (f .payload) st)
     (joined st badState)
 
 -- Frames joined one after the other, each to the state that the one before left: what each brings about.

@@ -34,6 +34,7 @@ pub struct Place {
     pub source: u16,
 }
 
+// The reception state, but for the bytes in the pool.
 #[repr(C)]
 pub struct Reception {
     pub places: [Place; 8],
@@ -49,12 +50,13 @@ pub enum Outcome {
     InPool(usize, usize),
 }
 
+// The reception state after a frame, and what the frame brings about.
 pub struct Joining {
     pub reception: Reception,
     pub outcome: Outcome,
 }
 
-// A datagram cut into frames: the first `count` of `frames`.
+// A datagram cut into frames: the first `count` of `frames`. It is refused, and no frame is made, by B9.
 #[repr(C)]
 pub struct Cut {
     pub refused: bool,
@@ -62,7 +64,7 @@ pub struct Cut {
     pub frames: [Frame; 9],
 }
 
-// A transport reply as a frame.
+// A transport reply as a frame. It is refused, and no frame is made, where an alias is over 4,095.
 #[repr(C)]
 pub struct TransportReply {
     pub refused: bool,
@@ -78,7 +80,8 @@ pub fn new_reception() -> Reception
     Reception { places: [free; 8] }
 }
 
-// A frame received by the board with that alias: what it brings about, and the reception state and the pool afterwards.
+// A frame received by the board with that alias: what it brings about, and the reception state and the pool afterwards. B7 is tested
+// first. Data over 8 bytes are ignored here already, so that what joins a frame can count on at most 8.
 pub fn join(
     pool: &mut [u8; 576],
     reception: Reception,
@@ -102,7 +105,7 @@ pub fn join(
         };
     }
     let role = frame::role_of(alias, header, payload.len());
-    unfinished::join_part(pool, reception, role, frame::source_of(header), payload)
+    unfinished::join_sound(pool, reception, role, frame::source_of(header), payload)
 }
 
 // Cuts a datagram into frames from the source to the destination. Refused, by B9, with no frame made, where the datagram has more than

@@ -21,7 +21,7 @@ ghost use Rattle.datagram.specs.Reception.{
   middleAt,
   lastAt,
   joinRule,
-  joinPart,
+  joinSound,
   Joins,
 };
 
@@ -191,9 +191,9 @@ fn join_more(
 }
 
 // A frame of at most 8 bytes joined to a state that B7 lets pass.
-pub fn join_part(pool: &mut [u8], r: Reception, role: Role, source: u16, payload: &[u8]) -> Joining
+pub fn join_sound(pool: &mut [u8], r: Reception, role: Role, source: u16, payload: &[u8]) -> Joining
     requires { ⌜ (length (now pool) ≡ 576) × (length (now payload) ≤ 8) × (sound (r .places) ≡ true) ⌝ }
-    ensures { λ j. ⌜ Joins (joinPart role source (now (payload .entry)) (state (r .places) (now (pool .entry)))) (now (payload .entry)) j (now (pool .exit)) ⌝ }
+    ensures { λ j. ⌜ Joins (joinSound role source (now (payload .entry)) (state (r .places) (now (pool .entry)))) (now (payload .entry)) j (now (pool .exit)) ⌝ }
 {
     let i = places::find_from(r, 0, source);
     if i < 8 {

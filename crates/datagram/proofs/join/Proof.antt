@@ -3,7 +3,7 @@
 use mathlib.Core.Path.{sym, _∙_}
 use borrow.Author.Needs.{needs}
 use borrow.Author.Tests.{not-true, not-false}
-use Rattle.datagram.proofs.JoinLaws.{bad-joins, long-joins, part-joins}
+use Rattle.datagram.proofs.JoinLaws.{bad-joins, long-joins, sound-joins}
 use Rattle.datagram.proofs.Order.{join-order}
 use Rattle.datagram.proofs.join.Statement.{statement}
 use Rattle.datagram.proofs.join.Tie as tie
@@ -20,8 +20,8 @@ returns-2 c =
     let ok = sym (c .before .before .are-sound .ensures) ∙ not-false _ (c .before .if1 .left) in
     (long-joins (a .alias) (a .header) (a .payload .now) (a .pool .now) (a .reception) ok (c .if2 .taken), join-order)
 
-join-part-requires : tie.Need-join-part-requires
-join-part-requires c κs =
+join-sound-requires : tie.Need-join-sound-requires
+join-sound-requires c κs =
     let ok = sym (c .before .before .before .before .before .are-sound .ensures) ∙ not-false _ (c .before .before .before .before .if1 .left) in
     (search needs, search needs, ok)
 
@@ -30,8 +30,8 @@ returns-3 c =
     let e = c .before .before .before in
     let a = e .before .before .before .before .before .args in
     let ok = sym (e .before .before .before .are-sound .ensures) ∙ not-false _ (e .before .before .if1 .left) in (
-      part-joins (a .alias) (a .header) (a .payload .now) (a .pool .now) (a .reception) ok (e .role-of .result) (c .before .source-of .result)
-          (c .join-part .result) _ (e .role-of .ensures) (c .before .source-of .ensures .0) (c .join-part .ensures),
+      sound-joins (a .alias) (a .header) (a .payload .now) (a .pool .now) (a .reception) ok (e .role-of .result) (c .before .source-of .result)
+          (c .join-sound .result) _ (e .role-of .ensures) (c .before .source-of .ensures .0) (c .join-sound .ensures),
       join-order,
     )
 
@@ -44,5 +44,5 @@ join-spec =
     returns-2
     (λ c κs. search needs)
     (λ c κs. search needs)
-    join-part-requires
+    join-sound-requires
     returns-3)

@@ -1,11 +1,11 @@
--- `datagram::unfinished::join_part` meets its contract.
+-- `datagram::unfinished::join_sound` meets its contract.
 -- Assumes nothing.
 use mathlib.Core.Path.{_≡_}
 use lib.ListN.{length, length-map}
-use Rattle.datagram.proofs.JoinLaws.{found-short, found-place, part-more, part-new}
+use Rattle.datagram.proofs.JoinLaws.{found-short, found-place, found-joins, not-found-joins}
 use borrow.Author.Needs.{needs}
-use Rattle.datagram.proofs.unfinished.join_part.Statement.{statement}
-use Rattle.datagram.proofs.unfinished.join_part.Tie as tie
+use Rattle.datagram.proofs.unfinished.join_sound.Statement.{statement}
+use Rattle.datagram.proofs.unfinished.join_sound.Tie as tie
 
 join-more-requires : tie.Need-join-more-requires
 join-more-requires c κs =
@@ -25,7 +25,7 @@ returns c =
     let n = c .before .before .before .before .before in
     let e = n .before .before .before in
     let a = e .args in
-    part-more (a .source) (n .find-from .result) (a .pool .now) (a .r .places) (simp length-map at (e .good .1 .0 .1 .1 .0 .1 .0 .1)) (n .find-from .ensures .0)
+    found-joins (a .source) (n .find-from .result) (a .pool .now) (a .r .places) (simp length-map at (e .good .1 .0 .1 .1 .0 .1 .0 .1)) (n .find-from .ensures .0)
     (a .role) (a .payload .now) (c .before .before .join-more .result) _ (c .before .before .before .before .if1 .taken) (c .before .before .join-more .ensures)
 
 returns-2 : tie.Need-returns-2
@@ -33,11 +33,11 @@ returns-2 c =
     let n = c .before .before .before .before .before in
     let e = n .before .before .before in
     let a = e .args in
-    part-new (a .source) (n .find-from .result) (a .pool .now) (a .r .places) (simp length-map at (e .good .1 .0 .1 .1 .0 .1 .0 .1)) (n .find-from .ensures .0)
+    not-found-joins (a .source) (n .find-from .result) (a .pool .now) (a .r .places) (simp length-map at (e .good .1 .0 .1 .1 .0 .1 .0 .1)) (n .find-from .ensures .0)
     (a .role) (a .payload .now) (c .before .before .join-new .result) _ (c .before .before .before .before .if1 .left) (c .before .before .join-new .ensures)
 
-pub join-part-spec : {M : Type 1} → statement M
-join-part-spec =
+pub join-sound-spec : {M : Type 1} → statement M
+join-sound-spec =
     tie.close
     (tie.spec
     (λ c κs. search needs)
