@@ -4,7 +4,7 @@ use super::Reception;
 ghost use mathlib.Core.Path.{_≡_};
 ghost use Prim.Native.Nat.{_+_, _≤_, _<_};
 ghost use lib.ListN.{drop, getD, set};
-ghost use Rattle.datagram.specs.Reception.{freePlace, isFor, placeOf, freeIn, soundBefore, sound};
+ghost use Rattle.datagram.specs.Reception.{freePlace, heldFor, isFor, placeOf, freeIn, soundBefore, sound};
 
 // A free place.
 pub const FREE: Place = Place {
@@ -12,6 +12,17 @@ pub const FREE: Place = Place {
     len: 0,
     source: 0,
 };
+
+// A place that holds `len` bytes of the source. Of a datagram opened with zero bytes too: it is held.
+pub fn held_for(source: u16, len: u8) -> Place
+    ensures { λ p. ⌜ p ≡ heldFor source len ⌝ }
+{
+    Place {
+        held: true,
+        len: len,
+        source: source,
+    }
+}
 
 // Whether a place holds a datagram of the source.
 fn is_for(p: Place, source: u16) -> bool

@@ -1,7 +1,6 @@
 // A frame joined to the unfinished datagram of its source: opened, appended to, closed or dropped.
 use super::Joining;
 use super::Outcome;
-use super::Place;
 use super::Reception;
 use super::places;
 use frame::Role;
@@ -62,11 +61,7 @@ fn open(pool: &mut [u8], r: Reception, source: u16, payload: &[u8]) -> Joining
         };
     }
     buffer::put(pool, PLACE_BYTES * i, payload);
-    let p = Place {
-        held: true,
-        len: payload.len() as u8,
-        source: source,
-    };
+    let p = places::held_for(source, payload.len() as u8);
     let q = places::with_place(r, i, p);
     Joining {
         reception: q,
@@ -86,11 +81,7 @@ fn append(pool: &mut [u8], r: Reception, i: usize, source: u16, payload: &[u8]) 
         return drop_refused(r, i, TEMPORARY_ERROR);
     }
     buffer::put(pool, PLACE_BYTES * i + old, payload);
-    let p = Place {
-        held: true,
-        len: total as u8,
-        source: source,
-    };
+    let p = places::held_for(source, total as u8);
     let q = places::with_place(r, i, p);
     Joining {
         reception: q,
