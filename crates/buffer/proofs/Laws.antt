@@ -1,6 +1,6 @@
 -- Laws of bytes in a lent buffer, and of the two numbers of four bytes.
 -- Assumes nothing.
-use Prim.Native.Nat.{ℕ, _+_, _-_, _*_, _/_, _%_, _≤_, _<_}
+use Prim.Native.Nat.{ℕ, zero, suc, _+_, _-_, _*_, _/_, _%_, _≤_, _<_}
 use mathlib.Core.Path.{_≡_, refl, sym, ap, _∙_}
 use mathlib.Core.Bool.{Bool, true, false, cond}
 use mathlib.Core.List.{List, [], _∷_, _++_, append-nil}
@@ -8,7 +8,7 @@ use native.Mathlib.Numerals.{add-one}
 use native.Mathlib.Nat.{zero-add, add-zero, add-assoc}
 use native.Mathlib.Omega.{arith}
 use lib.Dec.{leb}
-use lib.ListN.{length, take, drop, getD, set, length-append, length-drop, take-append-drop}
+use lib.ListN.{length, take, drop, getD, set, replicate, length-append, length-drop, take-append-drop}
 use lib.Seq.{paste, paste-suc, take-length, take-append-seam, drop-append-add, drop-drop, take-take, take-add, take-at, drop-at, take-append-le, drop-append-le, length-take-le}
 use borrow.Author.Tests.{le-leb, lt-leb}
 use Rattle.buffer.specs.Buffer.{over, putAt, placed}
@@ -32,6 +32,14 @@ put-step d s at i q h k = rw (q, add-one) (paste-suc d at s i 0 (omega arith) k)
 pub put-done : (d s : List ℕ) (at i : ℕ) {x : List ℕ} → x ≡ paste d at s i → i ≡ length s → at + length s ≤ length d → x ≡ placed at s d
 unfolding putAt
 put-done d s at i q e h = q ∙ rw (e, take-length s) (sym (placed-fits at s d h))
+
+-- what is left of a buffer of equal elements
+pub drop-replicate : {A : Type 0} (a : A) (m n : ℕ) → drop m (replicate n a) ≡ replicate (n - m) a
+drop-replicate a zero n = let e : n ≡ n - 0 = omega arith in ap (λ (k : ℕ). replicate k a) e
+drop-replicate a (suc m) zero = let e : 0 ≡ 0 - suc m = omega arith in ap (λ (k : ℕ). replicate k a) e
+drop-replicate a (suc m) (suc n) =
+    let e : n - m ≡ suc n - suc m = omega (arith, add-one m, add-one n) in
+    drop-replicate a m n ∙ ap (λ (k : ℕ). replicate k a) e
 
 -- ---- a reply that is written in pieces
 
