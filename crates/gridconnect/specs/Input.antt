@@ -1,0 +1,109 @@
+-- An input text as lines, and how it is read in chunks. Document 01, "The demonstration board": each line ends with a newline, and
+-- the last may lack it.
+use Prim.Native.Nat.{ℕ, _+_, _-_}
+use mathlib.Core.Path.{_≡_}
+use mathlib.Core.Bool.{Bool, true, false, cond}
+use mathlib.Core.List.{List, [], _∷_, _++_, map}
+use lib.Dec.{ltb, eqb}
+use lib.ListN.{length, take, drop, replicate}
+use Rattle.gridconnect.specs.Line.{parseOf, bad}
+use Rattle.gridconnect.specs.declared.Parsed.{Parsed}
+use Rattle.gridconnect.specs.declared.Carry.{Carry}
+use Rattle.gridconnect.specs.declared.Next.{Next}
+
+-- ---- a text split at its newlines
+
+-- The lines that a text completes, and what stands behind its last newline, where a line was begun before.
+unfoldable pub completed : List ℕ → List ℕ → List (List ℕ)
+completed begun [] = []
+completed begun (b ∷ more) = cond (eqb b 10) (begun ∷ completed [] more) (completed (begun ++ b ∷ []) more)
+
+unfoldable pub unfinished : List ℕ → List ℕ → List ℕ
+unfinished begun [] = begun
+unfinished begun (b ∷ more) = cond (eqb b 10) (unfinished [] more) (unfinished (begun ++ b ∷ []) more)
+
+abbrev pub completeLines : List ℕ → List (List ℕ)
+completeLines text = completed [] text
+
+abbrev pub lastLine : List ℕ → List ℕ
+lastLine text = unfinished [] text
+
+-- A last line that lacks its newline is a line; nothing behind the last newline is none.
+unfoldable pub endLine : List ℕ → List (List ℕ)
+endLine [] = []
+endLine (b ∷ more) = (b ∷ more) ∷ []
+
+abbrev pub linesOf : List ℕ → List (List ℕ)
+linesOf text = completeLines text ++ endLine (lastLine text)
+
+-- Split is right: no line has a newline, and the lines with a newline behind each, and then the last line, are the text.
+unfoldable pub noNewline : List ℕ → Bool
+noNewline [] = true
+noNewline (b ∷ more) = cond (eqb b 10) false (noNewline more)
+
+unfoldable pub joined : List (List ℕ) → List ℕ → List ℕ
+joined [] last = last
+joined (line ∷ more) last = line ++ 10 ∷ joined more last
+
+-- ---- the beginning of a line that is carried from chunk to chunk
+
+-- Cut off at 29 bytes, one more than a good line has; behind it stand zeros.
+abbrev pub cutOff : List ℕ → List ℕ
+cutOff line = take 29 line
+
+abbrev pub carryWith : List ℕ → Carry
+carryWith line = record { len = length (cutOff line); text = cutOff line ++ replicate (29 - length (cutOff line)) 0 }
+
+-- The carry behind a text that was read.
+abbrev pub carryOf : List ℕ → Carry
+carryOf text = carryWith (lastLine text)
+
+-- The beginning that a carry holds. A length over 29, which no text leads to, is that of a line cut off.
+abbrev pub begunOf : Carry → List ℕ
+begunOf carry = take (carry .len) (carry .text)
+
+-- ---- reading
+
+-- What is read from a chunk behind a carry, and the carry afterwards.
+unfoldable pub readFrom : Carry → List ℕ → List Parsed
+readFrom carry chunk = map parseOf (completed (begunOf carry) chunk)
+
+unfoldable pub carryAfter : Carry → List ℕ → Carry
+carryAfter carry chunk = carryWith (unfinished (begunOf carry) chunk)
+
+-- What is read from chunk after chunk, and the carry after all of them.
+unfoldable pub readChunks : Carry → List (List ℕ) → List Parsed
+readChunks carry [] = []
+readChunks carry (chunk ∷ more) = readFrom carry chunk ++ readChunks (carryAfter carry chunk) more
+
+unfoldable pub carryAfterChunks : Carry → List (List ℕ) → Carry
+carryAfterChunks carry [] = carry
+carryAfterChunks carry (chunk ∷ more) = carryAfterChunks (carryAfter carry chunk) more
+
+-- The bytes before the first newline, or all.
+unfoldable pub untilNewline : List ℕ → List ℕ
+untilNewline [] = []
+untilNewline (b ∷ more) = cond (eqb b 10) [] (b ∷ untilNewline more)
+
+abbrev pub line : Parsed → Carry → ℕ → Next
+line parsed carry at = record { complete = true; parsed = parsed; carry = carry; at = at }
+
+abbrev pub noLine : Carry → ℕ → Next
+noLine carry at = record { complete = false; parsed = bad; carry = carry; at = at }
+
+-- The next line of what is left of a chunk.
+unfoldable pub nextOf : Carry → List ℕ → ℕ → Next
+nextOf carry chunk from =
+    let rest = drop from chunk in
+    let part = untilNewline rest in
+    cond (ltb (length part) (length rest))
+    (line (parseOf (begunOf carry ++ part)) (carryWith []) (from + length part + 1))
+    (noLine (carryWith (begunOf carry ++ part)) (length chunk))
+
+-- The end of the input.
+unfoldable pub lastOf : Carry → Next
+lastOf carry = cond (eqb (carry .len) 0) (noLine (carryWith []) 0) (line (parseOf (begunOf carry)) (carryWith []) 0)
+
+-- The line of a step as a list.
+abbrev pub given : Next → List Parsed
+given next = cond (next .complete) (next .parsed ∷ []) []
