@@ -19,7 +19,7 @@ use Rattle.gridconnect.proofs.DigitLaws.{length-digits, all-digits, byt
 
 -- ---- two tests
 
-both : (a b : Bool) → (a && b) ≡ true → (a ≡ true) × (b ≡ true)
+pub both : (a b : Bool) → (a && b) ≡ true → (a ≡ true) × (b ≡ true)
 both true b e = (refl, e)
 both false b e = let z : _≡_ {A = ℕ} 0 1 = cc in absurd (omega arith)
 

@@ -1,9 +1,9 @@
 -- An input text as lines, and how it is read in chunks. Document 01, "The demonstration board": each line ends with a newline, and
 -- the last may lack it.
-use Prim.Native.Nat.{ℕ, _+_, _-_}
+use Prim.Native.Nat.{ℕ, _+_, _-_, _≤_, _<_}
 use mathlib.Core.Path.{_≡_}
-use mathlib.Core.Bool.{Bool, true, false, cond}
-use mathlib.Core.List.{List, [], _∷_, _++_, map}
+use mathlib.Core.Bool.{Bool, true, false, cond, not, _&&_}
+use mathlib.Core.List.{List, [], _∷_, _++_, map, flatten}
 use lib.Dec.{ltb, eqb}
 use lib.ListN.{length, take, drop, replicate}
 use Rattle.gridconnect.specs.Line.{parseOf, bad}
@@ -36,14 +36,23 @@ endLine (b ∷ more) = (b ∷ more) ∷ []
 abbrev pub linesOf : List ℕ → List (List ℕ)
 linesOf text = completeLines text ++ endLine (lastLine text)
 
--- Split is right: no line has a newline, and the lines with a newline behind each, and then the last line, are the text.
+-- The split is right: no line holds a newline, and the lines with a newline behind each, then the last line, are the text.
 unfoldable pub noNewline : List ℕ → Bool
 noNewline [] = true
-noNewline (b ∷ more) = cond (eqb b 10) false (noNewline more)
+noNewline (b ∷ more) = not (eqb b 10) && noNewline more
+
+unfoldable pub noneWithNewline : List (List ℕ) → Bool
+noneWithNewline [] = true
+noneWithNewline (line ∷ more) = noNewline line && noneWithNewline more
 
 unfoldable pub joined : List (List ℕ) → List ℕ → List ℕ
 joined [] last = last
 joined (line ∷ more) last = line ++ 10 ∷ joined more last
+
+pub record Split (text : List ℕ) : Type 0 where
+  pub same : joined (completeLines text) (lastLine text) ≡ text
+  pub lines : noneWithNewline (completeLines text) ≡ true
+  pub last : noNewline (lastLine text) ≡ true
 
 -- ---- the beginning of a line that is carried from chunk to chunk
 
@@ -107,3 +116,39 @@ lastOf carry = cond (eqb (carry .len) 0) (noLine (carryWith []) 0) (line (parseO
 -- The line of a step as a list.
 abbrev pub given : Next → List Parsed
 given next = cond (next .complete) (next .parsed ∷ []) []
+
+-- ---- what a step through a chunk means
+
+abbrev pub parsedLines : List ℕ → List Parsed
+parsedLines text = map parseOf (completeLines text)
+
+-- The text that was read before a step is `past`, and `bytes` are those that the step read.
+pub record Behind (past bytes : List ℕ) (next : Next) : Type 0 where
+  pub frames : parsedLines (past ++ bytes) ≡ parsedLines past ++ given next
+  pub carry : next .carry ≡ carryOf (past ++ bytes)
+
+pub record Step (carry : Carry) (chunk : List ℕ) (from : ℕ) (next : Next) : Type 0 where
+  -- Whatever text led to the carry: the step completes the text's next line or none, and leaves the carry of the longer text.
+  pub behind : (past : List ℕ) → carry ≡ carryOf past → Behind past (take (next .at - from) (drop from chunk)) next
+  -- What was to be read from the chunk is this line and what is left.
+  pub lines : readFrom carry (drop from chunk) ≡ given next ++ readFrom (next .carry) (drop (next .at) chunk)
+  pub left : carryAfter carry (drop from chunk) ≡ carryAfter (next .carry) (drop (next .at) chunk)
+  -- A line: the step went on within the chunk.
+  pub onward : next .complete ≡ true → (from < next .at) × (next .at ≤ length chunk)
+  -- No line: none ends in the rest of the chunk, and the carry is the one behind it.
+  pub ended : next .complete ≡ false → (readFrom carry (drop from chunk) ≡ []) × (next .carry ≡ carryAfter carry (drop from chunk))
+
+-- How the input is cut into chunks plays no part.
+pub record AnyCuts : Type 0 where
+  -- The lines of the chunks, read one after the other, are those of the whole input, and so with the last line.
+  pub lines : (chunks : List (List ℕ)) → readChunks (carryOf []) chunks ≡ parsedLines (flatten chunks)
+  pub carry : (chunks : List (List ℕ)) → carryAfterChunks (carryOf []) chunks ≡ carryOf (flatten chunks)
+  pub all : (chunks : List (List ℕ)) → readChunks (carryOf []) chunks ++ given (lastOf (carryAfterChunks (carryOf []) chunks)) ≡ map parseOf (linesOf (flatten chunks))
+  -- The same for one cut behind any carry.
+  pub read : (carry : Carry) (xs ys : List ℕ) → readFrom carry (xs ++ ys) ≡ readFrom carry xs ++ readFrom (carryAfter carry xs) ys
+  pub after : (carry : Carry) (xs ys : List ℕ) → carryAfter carry (xs ++ ys) ≡ carryAfter (carryAfter carry xs) ys
+  pub split : (text : List ℕ) → Split text
+
+-- The end of the input.
+abbrev pub Ends : Carry → Next → Type 0
+Ends carry next = (text : List ℕ) → carry ≡ carryOf text → given next ≡ map parseOf (endLine (lastLine text))

@@ -6,7 +6,7 @@ ghost use Prim.Native.Nat.{_≤_, min};
 ghost use lib.ListN.{length};
 ghost use mathlib.Core.List.{[], _++_};
 ghost use Rattle.gridconnect.specs.Line.{parseOf, bad, formed, frameText, unknownText, Printed, ReadBack};
-ghost use Rattle.gridconnect.specs.Input.{carryWith, begunOf, untilNewline, nextOf, lastOf};
+ghost use Rattle.gridconnect.specs.Input.{carryWith, carryOf, begunOf, untilNewline, nextOf, lastOf, Step, Ends, AnyCuts};
 
 // What a line stands for: a bad one has an all-zero frame.
 #[repr(C)]
@@ -141,7 +141,8 @@ pub fn print_unknown(out: &mut [u8], at: usize) -> usize
 
 // The carry before any input.
 pub fn start() -> Carry
-    ensures { λ r. ⌜ r ≡ carryWith [] ⌝ }
+    ensures { λ r. ⌜ r ≡ carryOf [] ⌝ }
+    ensures cuts { λ _. ⌜ AnyCuts ⌝ }
 {
     Carry {
         len: 0,
@@ -201,6 +202,7 @@ fn parse_end(carry: Carry, part: &[u8]) -> Parsed
 // Reads the chunk from index `from` on, up to and including the next newline or to the chunk's end.
 pub fn next_line(chunk: &[u8], from: usize, carry: Carry) -> Next
     ensures { λ r. ⌜ r ≡ nextOf carry (now (chunk .entry)) from ⌝ }
+    ensures step { λ r. ⌜ Step carry (now (chunk .entry)) from r ⌝ }
 {
     let first = smaller(from, chunk.len());
     let rest = &chunk[first..];
@@ -224,9 +226,9 @@ pub fn next_line(chunk: &[u8], from: usize, carry: Carry) -> Next
 // The end of the input: a last line that lacks its newline is a line.
 pub fn last_line(carry: Carry) -> Next
     ensures { λ r. ⌜ r ≡ lastOf carry ⌝ }
+    ensures ends { λ r. ⌜ Ends carry r ⌝ }
 {
-    let nothing = carry.len == 0;
-    if nothing {
+    if carry.len == 0 {
         return Next {
             complete: false,
             parsed: bad_line(),
