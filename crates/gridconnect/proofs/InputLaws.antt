@@ -9,7 +9,7 @@ use native.Mathlib.Numerals.{add-one}
 use native.Mathlib.Omega.{arith}
 use lib.Dec.{leb, ltb, eqb, eqb·suc-zero}
 use lib.ListN.{length, take, drop, replicate, length-append, length-take, length-drop, drop-of-length-le}
-use lib.Seq.{take-all, take-take, take-nil, take-append-add, take-append-seam, drop-append-add, drop-drop, drop-length}
+use lib.Seq.{drop-nil, take-all, take-take, take-nil, take-append-add, take-append-seam, drop-append-add, drop-drop, drop-length}
 use borrow.Author.Tests.{leb-true, leb-false, ltb-true, ltb-false, lt-ltb, le-ltb, eqb-true}
 use Rattle.gridconnect.specs.declared.Parsed.{Parsed}
 use Rattle.gridconnect.specs.declared.Carry.{Carry}
@@ -25,6 +25,15 @@ pub take-more : (n : ℕ) (xs : List ℕ) → take (min n (length xs)) xs ≡ ta
 take-more zero xs = ap (λ (k : ℕ). take k xs) (zero-min (length xs))
 take-more (suc n) [] = take-nil (min (suc n) 0)
 take-more (suc n) (x ∷ xs) = rw (suc-min-suc n (length xs)) (ap (λ (l : List ℕ). x ∷ l) (take-more n xs))
+
+drop-more : (n : ℕ) (xs : List ℕ) → drop (min n (length xs)) xs ≡ drop n xs
+drop-more zero xs = ap (λ (k : ℕ). drop k xs) (zero-min (length xs))
+drop-more (suc n) [] = drop-nil (min (suc n) 0)
+drop-more (suc n) (x ∷ xs) = rw (suc-min-suc n (length xs)) (drop-more n xs)
+
+-- an index past the end is like the end
+pub rest-from : (n k : ℕ) (xs : List ℕ) → k ≡ min n (length xs) → take (length xs - k) (drop k xs) ≡ drop n xs
+rest-from n k xs e = let l = length-drop k xs in take-all (length xs - k) (drop k xs) (omega arith) ∙ rw e (drop-more n xs)
 
 -- two pieces cut off together
 pub cut-both : (m : ℕ) (xs ys : List ℕ) (k : ℕ) → length xs ≤ m → k ≡ min (m - length xs) (length ys) → take m (xs ++ ys) ≡ xs ++ take k ys
@@ -230,13 +239,16 @@ to-newline (x ∷ xs) h =
     (λ e. rw e (ap (λ (n : ℕ). n ∷ xs) (eqb-true x 10 e)))
     (λ e. let k = rw e at h in rw e (ap (λ (l : List ℕ). x ∷ l) (to-newline xs (omega arith))))
 
-no-newline : (xs : List ℕ) → length xs ≤ length (untilNewline xs) → untilNewline xs ≡ xs
+pub no-newline : (xs : List ℕ) → length xs ≤ length (untilNewline xs) → untilNewline xs ≡ xs
 unfolding untilNewline
 no-newline [] h = refl
 no-newline (x ∷ xs) h =
     by-test (eqb x 10)
     (λ e. let k = rw e at h in absurd (omega arith))
     (λ e. let k = rw e at h in rw e (ap (λ (l : List ℕ). x ∷ l) (no-newline xs (omega arith))))
+
+pub take-line : (xs : List ℕ) → length (untilNewline xs) < length xs → take (length (untilNewline xs)) xs ≡ untilNewline xs
+take-line xs h = ap (λ (l : List ℕ). take (length (untilNewline xs)) l) (to-newline xs h) ∙ take-append-seam (untilNewline xs) (10 ∷ drop (suc (length (untilNewline xs))) xs)
 
 -- a step behind a text
 behind : (past bytes : List ℕ) (carry : Carry) (next : Next) → readFrom carry bytes ≡ given next → carryAfter carry bytes ≡ next .carry

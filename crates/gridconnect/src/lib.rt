@@ -1,5 +1,6 @@
 // GridConnect: a frame as a line of text, printed and read, and an input in chunks cut into lines.
 mod hex;
+
 use frame::Frame;
 ghost use mathlib.Core.Path.{_≡_};
 ghost use Prim.Native.Nat.{_≤_, min};
