@@ -209,10 +209,12 @@ pub fn next_line(chunk: &[u8], from: usize, carry: Carry) -> Next
     let rest = &chunk[first..];
     let n = line_size(rest);
     if n < rest.len() {
+        let parsed = parse_end(carry, &rest[..n]);
+        let nothing_begun = start();
         return Next {
             complete: true,
-            parsed: parse_end(carry, &rest[..n]),
-            carry: start(),
+            parsed,
+            carry: nothing_begun,
             at: first + n + 1,
         };
     }
