@@ -1,20 +1,19 @@
 -- Laws of lines: the length that the form gives, what a line that is no good one is, and a printed frame read back.
 -- Assumes nothing.
-use Prim.Native.Nat.{ℕ, zero, suc, _+_, _-_, _*_, _/_, _%_, _^_, _≤_, _<_}
+use Prim.Native.Nat.{ℕ, zero, suc, _+_, _-_, _*_, _%_, _^_, _≤_, _<_}
 use mathlib.Core.Path.{_≡_, refl, sym, ap, _∙_}
 use mathlib.Core.Bool.{Bool, true, false, cond, _&&_}
 use mathlib.Core.List.{List, [], _∷_, _++_}
 use native.Mathlib.Omega.{arith}
 use lib.Dec.{leb, eqb}
-use lib.ListN.{length, take, drop, getD, replicate, length-append}
+use lib.ListN.{length, getD, replicate, length-append}
 use lib.Seq.{take-at, getD-at}
 use borrow.Author.Tests.{le-leb, lt-leb, eq-eqb, leb-true, eqb-true}
 use Rattle.buffer.specs.BigEndian.{bytesOf}
 use Rattle.frame.specs.Frame.{frameOf}
-use Rattle.gridconnect.specs.declared.Parsed.{Parsed}
 use Rattle.gridconnect.specs.declared.hex.Bytes.{Bytes}
-use Rattle.gridconnect.specs.Digits.{digitsOf, allDigits, bytesIn, readOf, noBytes}
-use Rattle.gridconnect.specs.Line.{lineOf, frameText, formed, headerDigits, dataDigits, headerFrom, good, bad, parseOf, ReadBack}
+use Rattle.gridconnect.specs.Digits.{digitsOf, allDigits, bytesIn, readOf}
+use Rattle.gridconnect.specs.Line.{lineOf, formed, headerDigits, dataDigits, headerFrom, good, bad, parseOf, ReadBack}
 use Rattle.gridconnect.proofs.DigitLaws.{length-digits, all-digits, bytes-back}
 
 -- ---- two tests

@@ -17,6 +17,7 @@ pub struct Parsed {
 }
 
 // The beginning of an unfinished line, cut off at 29 bytes: one more than a good line has, so that a longer one is known to be bad.
+// A carry with a greater `len`, which no function here returns, is that of such a line.
 #[repr(C)]
 pub struct Carry {
     pub len: u8,
@@ -71,7 +72,7 @@ fn is_formed(line: &[u8]) -> bool
     line[n - 1] == b';'
 }
 
-// Reads a line, which is handed in without its newline.
+// Reads a line, which is handed in without its newline. Every header of eight digits is taken: which ones are used is not decided here.
 pub fn parse_line(line: &[u8]) -> Parsed
     ensures { λ r. ⌜ r ≡ parseOf (now (line .entry)) ⌝ }
     ensures read_back { λ _. ⌜ ReadBack ⌝ }
@@ -143,7 +144,6 @@ pub fn print_unknown(out: &mut [u8], at: usize) -> usize
 // The carry before any input.
 pub fn start() -> Carry
     ensures { λ r. ⌜ r ≡ carryOf [] ⌝ }
-    ensures cuts { λ _. ⌜ AnyCuts ⌝ }
 {
     Carry {
         len: 0,
@@ -200,10 +200,12 @@ fn parse_end(carry: Carry, part: &[u8]) -> Parsed
     parse_line(&text[..n])
 }
 
-// Reads the chunk from index `from` on, up to and including the next newline or to the chunk's end.
+// Reads the chunk from index `from` on, up to and including the next newline or to the chunk's end. Of a bad or missing line the frame
+// is all zero. An index past the end is like the end.
 pub fn next_line(chunk: &[u8], from: usize, carry: Carry) -> Next
     ensures { λ r. ⌜ r ≡ nextOf carry (now (chunk .entry)) from ⌝ }
     ensures step { λ r. ⌜ Step carry (now (chunk .entry)) from r ⌝ }
+    ensures cuts { λ _. ⌜ AnyCuts ⌝ }
 {
     let first = smaller(from, chunk.len());
     let rest = &chunk[first..];
@@ -226,7 +228,7 @@ pub fn next_line(chunk: &[u8], from: usize, carry: Carry) -> Next
     }
 }
 
-// The end of the input: a last line that lacks its newline is a line.
+// The end of the input: a last line that lacks its newline is a line, and nothing left is none.
 pub fn last_line(carry: Carry) -> Next
     ensures { λ r. ⌜ r ≡ lastOf carry ⌝ }
     ensures ends { λ r. ⌜ Ends carry r ⌝ }

@@ -1,17 +1,17 @@
 -- `append` meets its contract: what is put first and what is put behind it are the line, cut off at 29 bytes.
 -- Assumes nothing.
-use Prim.Native.Nat.{ℕ, _+_, _-_, _≤_, _<_, min}
-use mathlib.Core.Path.{_≡_, refl, sym, ap, _∙_}
-use mathlib.Core.List.{List, [], _∷_, _++_}
+use Prim.Native.Nat.{ℕ, _+_, _-_, min}
+use mathlib.Core.Path.{_≡_, sym, ap, _∙_}
+use mathlib.Core.List.{List, _++_}
 use native.Mathlib.Omega.{arith}
 use borrow.Author.Needs.{needs}
-use lib.ListN.{length, take, drop, replicate, length-append, length-take}
+use lib.ListN.{length, take, replicate, length-append}
 use lib.Seq.{length-take-le}
 use Rattle.buffer.specs.Buffer.{over, placed}
 use Rattle.buffer.proofs.Laws.{placed-fits, put-first, place-over, over-zeros}
 use Rattle.gridconnect.specs.declared.Carry.{Carry}
 use Rattle.gridconnect.specs.Input.{carryWith, begunOf, cutOff}
-use Rattle.gridconnect.proofs.InputLaws.{take-more, cut-both}
+use Rattle.gridconnect.proofs.CutLaws.{take-more, cut-both}
 use Rattle.gridconnect.proofs.append.Statement.{statement}
 use Rattle.gridconnect.proofs.append.Tie as tie
 

@@ -1,7 +1,7 @@
 -- `next_line` meets its contract.
 -- Assumes nothing.
 use Prim.Native.Nat.{ℕ, _+_, _-_, _≤_, _<_, min}
-use mathlib.Core.Path.{_≡_, refl, sym, ap, _∙_}
+use mathlib.Core.Path.{_≡_, sym, ap, _∙_}
 use mathlib.Core.Bool.{false}
 use mathlib.Core.List.{List, [], _++_}
 use native.Mathlib.Omega.{arith}
@@ -12,8 +12,10 @@ use lib.Seq.{length-take-le}
 use Rattle.gridconnect.specs.declared.Parsed.{Parsed}
 use Rattle.gridconnect.specs.declared.Carry.{Carry}
 use Rattle.gridconnect.specs.Line.{parseOf, bad}
-use Rattle.gridconnect.specs.Input.{unfinished, carryWith, carryOf, begunOf, untilNewline, line, noLine, nextOf}
-use Rattle.gridconnect.proofs.InputLaws.{rest-from, take-line, no-newline, step}
+use Rattle.gridconnect.specs.Input.{unfinished, carryWith, carryOf, begunOf, untilNewline, line, nextOf}
+use Rattle.gridconnect.proofs.CutLaws.{rest-from}
+use Rattle.gridconnect.proofs.StepLaws.{take-line, no-newline, step}
+use Rattle.gridconnect.proofs.ChunkLaws.{any-cuts}
 use Rattle.gridconnect.proofs.next_line.Statement.{statement}
 use Rattle.gridconnect.proofs.next_line.Tie as tie
 
@@ -58,14 +60,14 @@ slice-aggregate-parse-end c =
 returns : tie.Need-returns
 returns c =
     let a = c .before .before .before .before .before .before .before .before .args in
-    let e = a-line (a .carry) (a .chunk .now) (a .from) _ _ (c .before .before .before .before .before .before .smaller .ensures .2) (c .before .before .before .before .line-size .ensures) _ _ (c .before .before .before .if1 .taken) (c .before .parse-end .ensures) (c .start .ensures .0) in
-    (e, step (a .carry) (a .chunk .now) (a .from) e)
+    let e = a-line (a .carry) (a .chunk .now) (a .from) _ _ (c .before .before .before .before .before .before .smaller .ensures .2) (c .before .before .before .before .line-size .ensures) _ _ (c .before .before .before .if1 .taken) (c .before .parse-end .ensures) (c .start .ensures) in
+    (e, (step (a .carry) (a .chunk .now) (a .from) e, any-cuts))
 
 returns-2 : tie.Need-returns-2
 returns-2 c =
     let a = c .before .before .before .before .before .before .before .args in
     let e = no-line (a .carry) (a .chunk .now) (a .from) _ _ (c .before .before .before .before .before .smaller .ensures .2) (c .before .before .before .line-size .ensures) _ _ (c .before .before .if1 .left) (c .before .bad-line .ensures) (c .append .ensures) in
-    (e, step (a .carry) (a .chunk .now) (a .from) e)
+    (e, (step (a .carry) (a .chunk .now) (a .from) e, any-cuts))
 
 pub next-line-spec : {M : Type 1} → statement M
 next-line-spec =

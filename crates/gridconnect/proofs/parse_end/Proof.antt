@@ -1,6 +1,6 @@
 -- `parse_end` meets its contract.
 -- Assumes nothing.
-use Prim.Native.Nat.{ℕ, _≤_}
+use Prim.Native.Nat.{ℕ}
 use mathlib.Core.Path.{_≡_, sym, ap, _∙_}
 use mathlib.Core.List.{List, _++_}
 use native.Mathlib.Omega.{arith}
@@ -9,7 +9,7 @@ use lib.ListN.{length}
 use lib.Seq.{length-take-le}
 use Rattle.gridconnect.specs.Line.{parseOf}
 use Rattle.gridconnect.specs.Input.{begunOf}
-use Rattle.gridconnect.proofs.InputLaws.{nothing-begun, parse-carry, carry-short}
+use Rattle.gridconnect.proofs.CutLaws.{nothing-begun, parse-carry, carry-short}
 use Rattle.gridconnect.proofs.parse_end.Statement.{statement}
 use Rattle.gridconnect.proofs.parse_end.Tie as tie
 
