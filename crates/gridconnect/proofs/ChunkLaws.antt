@@ -69,7 +69,7 @@ pub after-behind : (a xs : List ℕ) → carryAfter (carryWith a) xs ≡ carryWi
 unfolding carryAfter
 after-behind a xs = left-same xs (begunOf (carryWith a)) a (cut-begun a)
 
-read-cut : (carry : Carry) (xs ys : List ℕ) → readFrom carry (xs ++ ys) ≡ readFrom carry xs ++ readFrom (carryAfter carry xs) ys
+pub read-cut : (carry : Carry) (xs ys : List ℕ) → readFrom carry (xs ++ ys) ≡ readFrom carry xs ++ readFrom (carryAfter carry xs) ys
 unfolding readFrom carryAfter
 read-cut carry xs ys =
     let a = begunOf carry in
@@ -77,7 +77,7 @@ read-cut carry xs ys =
     ∙ map-append parseOf (completed a xs) (completed (unfinished a xs) ys)
     ∙ ap (λ (l : List Parsed). map parseOf (completed a xs) ++ l) (sym (read-behind (unfinished a xs) ys))
 
-after-cut : (carry : Carry) (xs ys : List ℕ) → carryAfter carry (xs ++ ys) ≡ carryAfter (carryAfter carry xs) ys
+pub after-cut : (carry : Carry) (xs ys : List ℕ) → carryAfter carry (xs ++ ys) ≡ carryAfter (carryAfter carry xs) ys
 unfolding carryAfter
 after-cut carry xs ys = ap carryWith (unfinished-append xs ys (begunOf carry)) ∙ sym (after-behind (unfinished (begunOf carry) xs) ys)
 

@@ -12,7 +12,7 @@ use lib.Seq.{drop-nil, take-all, take-take, take-nil, take-append-add, take-appe
 use borrow.Author.Tests.{leb-true, leb-false}
 use Rattle.gridconnect.specs.declared.Carry.{Carry}
 use Rattle.gridconnect.specs.Line.{parseOf}
-use Rattle.gridconnect.specs.Input.{cutOff, carryWith, begunOf}
+use Rattle.gridconnect.specs.Input.{kept, cutOff, carryWith, begunOf}
 use Rattle.gridconnect.proofs.LineLaws.{too-long}
 
 -- ---- what is kept, and what is left from an index on
@@ -45,22 +45,22 @@ cut-append (suc m) [] ys = refl
 cut-append (suc m) (x ∷ xs) ys = ap (λ (l : List ℕ). x ∷ l) (cut-append m xs ys)
 
 pub same-cut : (a b ys : List ℕ) → cutOff a ≡ cutOff b → cutOff (a ++ ys) ≡ cutOff (b ++ ys)
-same-cut a b ys e = sym (cut-append 29 a ys) ∙ ap (λ (l : List ℕ). cutOff (l ++ ys)) e ∙ cut-append 29 b ys
+same-cut a b ys e = sym (cut-append kept a ys) ∙ ap (λ (l : List ℕ). cutOff (l ++ ys)) e ∙ cut-append kept b ys
 
 pub cut-twice : (a : List ℕ) → cutOff (cutOff a) ≡ cutOff a
-cut-twice a = take-take 29 29 a (omega arith)
+cut-twice a = take-take kept kept a (omega arith)
 
 -- ---- an overlong line is bad, cut off or not
 
-cut-by : (a : List ℕ) (t : Bool) → leb (length a) 29 ≡ t → parseOf (cutOff a) ≡ parseOf a
-cut-by a true e = ap parseOf (take-all 29 a (leb-true (length a) 29 e))
+cut-by : (a : List ℕ) (t : Bool) → leb (length a) kept ≡ t → parseOf (cutOff a) ≡ parseOf a
+cut-by a true e = ap parseOf (take-all kept a (leb-true (length a) kept e))
 cut-by a false e =
-    let h : 29 < length a = leb-false (length a) 29 e in
-    let l = length-take 29 a in
+    let h : kept < length a = leb-false (length a) kept e in
+    let l = length-take kept a in
     too-long (cutOff a) (omega arith) ∙ sym (too-long a (omega arith))
 
-parse-cut : (a : List ℕ) → parseOf (cutOff a) ≡ parseOf a
-parse-cut a = cut-by a (leb (length a) 29) refl
+pub parse-cut : (a : List ℕ) → parseOf (cutOff a) ≡ parseOf a
+parse-cut a = cut-by a (leb (length a) kept) refl
 
 pub parse-same : (a b : List ℕ) → cutOff a ≡ cutOff b → parseOf a ≡ parseOf b
 parse-same a b e = sym (parse-cut a) ∙ ap parseOf e ∙ parse-cut b
@@ -77,7 +77,7 @@ pub parse-carry : (a : List ℕ) {w : Carry} → w ≡ carryWith a → parseOf (
 parse-carry a e = ap (λ (w : Carry). parseOf (begunOf w)) e ∙ ap parseOf (begun-with a) ∙ parse-cut a
 
 pub carry-short : (a : List ℕ) {w : Carry} → w ≡ carryWith a → w .len ≤ 29
-carry-short a e = let l = length-take 29 a in rw e (omega arith)
+carry-short a e = let l = length-take kept a in rw e (omega arith)
 
 pub nothing-begun : (w : Carry) → w .len ≡ 0 → begunOf w ≡ []
 nothing-begun w e = rw e

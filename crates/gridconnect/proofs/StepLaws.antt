@@ -65,11 +65,11 @@ behind past bytes carry next read after q =
       carry = sym after ∙ ap (λ (w : Carry). carryAfter w bytes) q ∙ after-behind (lastLine past) bytes ∙ ap carryWith (sym (unfinished-append past bytes []));
     }
 
-nothing-read : (carry : Carry) → readFrom carry [] ≡ []
+pub nothing-read : (carry : Carry) → readFrom carry [] ≡ []
 unfolding readFrom completed
 nothing-read carry = refl
 
-nothing-left : (a : List ℕ) → carryAfter (carryWith a) [] ≡ carryWith a
+pub nothing-left : (a : List ℕ) → carryAfter (carryWith a) [] ≡ carryWith a
 unfolding unfinished
 nothing-left a = after-behind a []
 

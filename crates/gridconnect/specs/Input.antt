@@ -56,9 +56,14 @@ pub record Split (text : List ℕ) : Type 0 where
 
 -- ---- the beginning of a line that is carried from chunk to chunk
 
--- Cut off at 29 bytes, one more than a good line has; behind it stand zeros.
+-- How many bytes are kept: one more than a good line has, so that an overlong line is known to be bad.
+abbrev pub kept : ℕ
+kept = 29
+
 abbrev pub cutOff : List ℕ → List ℕ
-cutOff line = take 29 line
+cutOff line = take kept line
+
+-- Behind what is kept stand zeros.
 
 abbrev pub carryWith : List ℕ → Carry
 carryWith line = record { len = length (cutOff line); text = cutOff line ++ replicate (29 - length (cutOff line)) 0 }
@@ -67,7 +72,7 @@ carryWith line = record { len = length (cutOff line); text = cutOff line ++ repl
 abbrev pub carryOf : List ℕ → Carry
 carryOf text = carryWith (lastLine text)
 
--- The beginning that a carry holds. A length over 29, which no text leads to, is that of a line cut off.
+-- The beginning that a carry holds. A length over 29, which no text leads to, stands for all 29 bytes: that of an overlong line.
 abbrev pub begunOf : Carry → List ℕ
 begunOf carry = take (carry .len) (carry .text)
 
