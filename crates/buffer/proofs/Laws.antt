@@ -9,7 +9,11 @@ use native.Mathlib.Nat.{zero-add, add-zero, add-assoc}
 use native.Mathlib.Omega.{arith}
 use lib.Dec.{leb}
 use lib.ListN.{length, take, drop, getD, set, replicate, length-append, length-drop, take-append-drop}
+<<<<<<< HEAD
 use lib.Seq.{paste, paste-suc, take-length, take-append-seam, drop-append-add, drop-drop, take-take, take-add, take-at, drop-at, take-append-le, drop-append-le, length-take-le}
+=======
+use lib.Seq.{paste, paste-suc, sets, sets-eq, take-length, take-append-seam, drop-append-add, drop-drop, take-take, take-add, take-at, drop-at, take-append-le, drop-append-le, length-take-le}
+>>>>>>> d62e8cd53af1e0a93c187f766a8240bcd1d8d897
 use borrow.Author.Tests.{le-leb, lt-leb}
 use Rattle.buffer.specs.Buffer.{over, putAt, placed}
 use Rattle.buffer.specs.BigEndian.{numberOf, bytesOf}
@@ -107,3 +111,25 @@ drop-put n a d buffer h =
     drop-append-le n (take (n + a) buffer ++ d) (drop (n + a + length d) buffer) (omega (arith, length-append (take (n + a) buffer) d))
     ∙ ap (λ (r : List ℕ). r ++ drop (n + a + length d) buffer) (drop-append-le n (take (n + a) buffer) d (omega arith))
     ∙ rw (take-add n a buffer, drop-at (take n buffer) (take a (drop n buffer)) n m, drop-drop (a + length d) n buffer, add-assoc)
+
+-- bytes that are stored one by one
+pub put-sets : (a : ℕ) (d buffer : List ℕ) → a + length d ≤ length buffer → sets buffer a d ≡ putAt a d buffer
+unfolding putAt
+put-sets a d buffer h = sets-eq d buffer a h
+
+-- a piece behind those that were put before
+pub place-over : (xs ys buffer : List ℕ) (n : ℕ) {x : List ℕ} → x ≡ over xs buffer → length xs ≡ n → n + length ys ≤ length buffer
+    → placed n ys x ≡ over (xs ++ ys) buffer
+place-over xs ys buffer n q l h =
+    let m : length (over xs buffer) ≡ length buffer = over-length xs buffer (omega arith) in
+    rw q (placed-fits n ys (over xs buffer) (omega arith) ∙ put-over xs ys buffer n l)
+
+-- ---- bytes over zeros
+
+drop-zeros : (m n : ℕ) → drop m (replicate {A = ℕ} n 0) ≡ replicate {A = ℕ} (n - m) 0
+drop-zeros zero n = let e : n ≡ n - 0 = omega arith in ap (λ (k : ℕ). replicate {A = ℕ} k 0) e
+drop-zeros (suc m) zero = let e : 0 ≡ 0 - suc m = omega arith in ap (λ (k : ℕ). replicate {A = ℕ} k 0) e
+drop-zeros (suc m) (suc n) = let e : n - m ≡ suc n - suc m = omega (arith, add-one m, add-one n) in drop-zeros m n ∙ ap (λ (k : ℕ). replicate {A = ℕ} k 0) e
+
+pub over-zeros : (n : ℕ) (xs : List ℕ) → over xs (replicate n 0) ≡ xs ++ replicate (n - length xs) 0
+over-zeros n xs = ap (λ (l : List ℕ). xs ++ l) (drop-zeros (length xs) n)
