@@ -1,0 +1,75 @@
+-- The frame call: the house numbers B1 to B7 at every call, joining, and a finished datagram handled whole; and demand 3 of it.
+use Prim.Native.Nat.{ℕ, _≤_}
+use mathlib.Core.Bool.{cond}
+use mathlib.Core.List.{List}
+use mathlib.Core.Path.{_≡_}
+use lib.ListN.{length}
+use Rattle.board.specs.HouseNumbers.{isGood, descriptionHouse}
+use Rattle.board.specs.declared.HouseNumber.{HouseNumber}
+use Rattle.board.specs.declared.HouseNumber.the-variants.{Good, B7}
+use Rattle.frame.specs.Frame.{CanFrame}
+use Rattle.datagram.specs.Reception.{State}
+use Rattle.datagram.specs.Order as order
+use Rattle.datagram.specs.Order.{FrameResult, result, houseRefusal, ignoredFrame, nothing, transportRefusal, handled, handleFrame, OrderStatement}
+use Rattle.node.specs.Performing.{Fixed, Contents, Result, Outcome, handle}
+use Rattle.node.specs.Datagram.{answerOf, bufferOf, datagramHouse}
+use Rattle.node.specs.declared.FrameAnswer.{FrameAnswer}
+use Rattle.node.specs.declared.FrameAnswer.the-variants as answer
+use Rattle.node.specs.declared.FrameDone.{FrameDone}
+
+-- ---- the call
+
+-- "Handled whole: the rules .. applied to the datagram, description, flash, memory and lock": the answer, and what is left.
+abbrev pub handler : Fixed → Contents → List ℕ → Result × Contents
+handler x c d = let o = handle x c d in (o .result, o .contents)
+
+-- "House numbers .. checked first at each call; nothing changes": B1 to B6 of the description and the buffer, then B7 of the state;
+-- then the frame is joined, and a finished datagram handled.
+unfoldable pub frameCall : Fixed → List ℕ → State → Contents → CanFrame → FrameResult HouseNumber Contents Result
+frameCall x buffer st c f =
+    cond (isGood (datagramHouse x (c .memory) buffer))
+    (handleFrame B7 (handler x) (x .description .alias) st c f)
+    (result st c (houseRefusal (datagramHouse x (c .memory) buffer)))
+
+-- ---- demand 3
+
+-- A call of the driver: a frame, and the reply buffer lent for it.
+pub record Call : Type 0 where
+  pub frame : CanFrame
+  pub buffer : List ℕ
+
+-- The order statement of the frame call: for every description that no house number refuses with flash and a memory of m bytes, every list
+-- of calls, each with a buffer of at least 72 bytes, from a state with nothing unfinished, while at most eight tools are unfinished by
+-- their books.
+abbrev pub NodeOrder : Fixed → Type 0
+NodeOrder x =
+    (m : ℕ) → descriptionHouse (x .description) (length (x .flash)) m ≡ Good
+    → OrderStatement {C = Call} (λ k. k .frame) (λ k. 72 ≤ length (k .buffer)) (λ c. length (c .memory) ≡ m) B7 (handler x) (x .description .alias)
+    (λ st c k. frameCall x (k .buffer) st c (k .frame))
+
+-- ---- what the code gives back
+
+-- An answer as the code gives it: the reply's bytes are in the buffer.
+abbrev pub frameAnswerOf : order.Answer HouseNumber Result → FrameAnswer
+frameAnswerOf (houseRefusal house) = answer.Refused house
+frameAnswerOf ignoredFrame = answer.Ignored
+frameAnswerOf nothing = answer.Nothing
+frameAnswerOf (transportRefusal code) = answer.TransportRefusal code
+frameAnswerOf (handled r) = answer.Answered (answerOf r)
+
+-- The reply buffer afterwards: untouched but for a reply.
+abbrev pub frameBufferOf : order.Answer HouseNumber Result → List ℕ → List ℕ
+frameBufferOf (houseRefusal house) buffer = buffer
+frameBufferOf ignoredFrame buffer = buffer
+frameBufferOf nothing buffer = buffer
+frameBufferOf (transportRefusal code) buffer = buffer
+frameBufferOf (handled r) buffer = bufferOf r buffer
+
+-- The code's result, the pool, memory and the buffer `after` are what x says, over the buffer `before`.
+pub record FrameEnds (x : FrameResult HouseNumber Contents Result) (r : FrameDone) (before bytes stored after : List ℕ) : Type 0 where
+  pub answer : r .answer ≡ frameAnswerOf (x .answer)
+  pub places : r .reception .places ≡ x .state .places
+  pub pool : bytes ≡ x .state .pool
+  pub memory : stored ≡ x .world .memory
+  pub lock : r .lock ≡ x .world .lock
+  pub reply : after ≡ frameBufferOf (x .answer) before

@@ -1,0 +1,124 @@
+//! Holds the joining of frames: what one frame does to the reception state, and its answer.
+
+use crate::datagram::{self, check_reply_buffer, code, Answer, Lock};
+use crate::description::{check_description, Description};
+use crate::frame::FRAME_DATA;
+use crate::reception::Reception;
+use crate::HouseNumber;
+
+/// What the board answers to one frame.
+#[derive(Clone, Copy, Debug, PartialEq, Eq)]
+pub enum FrameAnswer {
+    /// The frame is none of the board's business: no answer and no change.
+    Ignored,
+    /// The frame was joined to an unfinished datagram: no answer yet.
+    Nothing,
+    /// Rejected with 0x2000, 0x2020 or 0x2040 because of the reception state.
+    TransportRefusal(u16),
+    /// The frame finished a datagram, and this is the answer to it.
+    Handled(Answer),
+}
+
+/// The four kinds of frame that carry a datagram.
+#[derive(Clone, Copy, PartialEq, Eq)]
+enum Kind {
+    Single,
+    First,
+    Middle,
+    Last,
+}
+
+/// The source alias in a header.
+#[must_use]
+pub const fn source_of(header: u32) -> u16 {
+    (header & 0xFFF) as u16
+}
+
+/// The kind and source of a frame that the board with this alias does not ignore.
+fn recognise(alias: u16, header: u32, data: &[u8]) -> Option<(Kind, u16)> {
+    // A header over 29 bits has more than five bits here and is none of the four.
+    let kind = match header >> 24 {
+        0x1A => Kind::Single,
+        0x1B => Kind::First,
+        0x1C => Kind::Middle,
+        0x1D => Kind::Last,
+        _ => return None,
+    };
+    let destination = (header >> 12 & 0xFFF) as u16;
+    let source = source_of(header);
+    (destination == alias && source != alias && data.len() <= FRAME_DATA).then_some((kind, source))
+}
+
+/// Handles one frame.
+///
+/// B1 to B7 come first, in order and also for a frame that would be ignored; they change nothing.
+#[expect(
+    clippy::too_many_arguments,
+    reason = "everything the board has is lent, each thing by itself"
+)]
+pub fn handle_frame(
+    description: &Description,
+    flash: &[u8],
+    memory: &mut [u8],
+    lock: &mut Lock,
+    reception: &mut Reception,
+    header: u32,
+    data: &[u8],
+    reply: &mut [u8],
+) -> Result<FrameAnswer, HouseNumber> {
+    check_description(description, flash.len(), memory.len())?;
+    check_reply_buffer(reply)?;
+    reception.check()?;
+
+    let Some((kind, source)) = recognise(description.alias, header, data) else {
+        return Ok(FrameAnswer::Ignored);
+    };
+    Ok(match (kind, reception.find(source)) {
+        (Kind::Single, None) => FrameAnswer::Handled(datagram::handle(
+            description,
+            flash,
+            memory,
+            lock,
+            data,
+            reply,
+        )),
+        (Kind::First, None) => {
+            if reception.open(source, data) {
+                FrameAnswer::Nothing
+            } else {
+                FrameAnswer::TransportRefusal(code::NO_ROOM)
+            }
+        }
+        (Kind::Middle, Some(place)) if !data.is_empty() => {
+            if reception.append(place, data) {
+                FrameAnswer::Nothing
+            } else {
+                reception.free(place);
+                FrameAnswer::TransportRefusal(code::TOO_LONG)
+            }
+        }
+        (Kind::Last, Some(place)) => {
+            let answer = if reception.append(place, data) {
+                let whole = reception.joined(place);
+                FrameAnswer::Handled(datagram::handle(
+                    description,
+                    flash,
+                    memory,
+                    lock,
+                    whole,
+                    reply,
+                ))
+            } else {
+                FrameAnswer::TransportRefusal(code::TOO_LONG)
+            };
+            reception.free(place);
+            answer
+        }
+        (_, held) => {
+            if let Some(place) = held {
+                reception.free(place);
+            }
+            FrameAnswer::TransportRefusal(code::OUT_OF_ORDER)
+        }
+    })
+}

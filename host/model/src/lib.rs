@@ -1,0 +1,33 @@
+//! Holds the parts of the library: the board's side of the OpenLCB memory configuration protocol
+//! as document 01 fixes it.
+//!
+//! Document 01 decides; source documents 000 (Memory Configuration), 002 (Message Network) and
+//! 004 (Datagram Transport) stand behind it. Nothing here allocates while a frame is handled:
+//! flash, memory, lock, reception state and reply buffer are all lent by the caller.
+
+#![forbid(unsafe_code)]
+#![warn(missing_docs)]
+
+mod cutting;
+mod datagram;
+mod demonstration;
+mod description;
+mod frame;
+mod gridconnect;
+mod house;
+mod joining;
+mod program;
+mod reception;
+
+pub use cutting::{cut, Frames, MOST_FRAMES};
+pub use datagram::{code, handle_datagram, Answer, Lock, LONGEST_DATAGRAM};
+pub use demonstration::{demo_board, Board, DEMONSTRATION_DESCRIPTION};
+pub use description::{
+    check_description, Description, Space, LARGEST_STORE, LAST_ALIAS, MOST_SPACES,
+};
+pub use frame::{received_ok_frame, rejected_frame, transport_reply, Frame, FRAME_DATA};
+pub use gridconnect::{parse_line, print_line, LONGEST_LINE};
+pub use house::HouseNumber;
+pub use joining::{handle_frame, source_of, FrameAnswer};
+pub use program::{run, Program};
+pub use reception::{Reception, Unfinished, MOST_UNFINISHED};

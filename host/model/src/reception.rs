@@ -1,0 +1,185 @@
+//! Holds the reception state: the unfinished datagrams of up to eight sources, and its check (B7).
+
+use crate::datagram::LONGEST_DATAGRAM;
+use crate::description::LAST_ALIAS;
+use crate::HouseNumber;
+
+/// The most sources that may each have one unfinished datagram.
+pub const MOST_UNFINISHED: usize = 8;
+
+/// One unfinished datagram as it goes into and comes out of a reception state.
+#[derive(Clone, Copy, Debug, PartialEq, Eq, PartialOrd, Ord)]
+pub struct Unfinished<'a> {
+    /// The alias of the tool that sends it; damaged where over 4,095.
+    pub source: u16,
+    /// The stored length; damaged where over 72.
+    pub length: usize,
+    /// The bytes joined so far, as many as the stored length says but never over 72.
+    pub bytes: &'a [u8],
+}
+
+#[derive(Clone, Copy, Debug)]
+struct Place {
+    source: u16,
+    length: usize,
+    bytes: [u8; LONGEST_DATAGRAM],
+}
+
+impl Place {
+    const FREE: Self = Self {
+        source: 0,
+        length: 0,
+        bytes: [0; LONGEST_DATAGRAM],
+    };
+}
+
+/// The unfinished datagrams of up to eight sources.
+#[derive(Clone, Debug)]
+pub struct Reception {
+    /// Bit `n` says that place `n` holds an unfinished datagram.
+    in_use: u8,
+    places: [Place; MOST_UNFINISHED],
+}
+
+impl Default for Reception {
+    fn default() -> Self {
+        Self::new()
+    }
+}
+
+impl Reception {
+    /// The state at the start: nothing unfinished.
+    #[must_use]
+    pub const fn new() -> Self {
+        Self {
+            in_use: 0,
+            places: [Place::FREE; MOST_UNFINISHED],
+        }
+    }
+
+    /// A state with these entries, damaged ones among them; `None` where there are over eight.
+    ///
+    /// Of the bytes, as many are kept as the length says and at most 72; bytes that are missing
+    /// are zero.
+    #[must_use]
+    pub fn from_unfinished(entries: &[Unfinished]) -> Option<Self> {
+        if entries.len() > MOST_UNFINISHED {
+            return None;
+        }
+        let mut reception = Self::new();
+        for (index, entry) in entries.iter().enumerate() {
+            let place = &mut reception.places[index];
+            place.source = entry.source;
+            place.length = entry.length;
+            let kept = entry.bytes.len().min(entry.length).min(LONGEST_DATAGRAM);
+            place.bytes[..kept].copy_from_slice(&entry.bytes[..kept]);
+            reception.in_use |= 1 << index;
+        }
+        Some(reception)
+    }
+
+    /// The unfinished datagrams. Their order says nothing.
+    pub fn unfinished(&self) -> impl Iterator<Item = Unfinished<'_>> {
+        indices(self.in_use).map(|index| {
+            let place = &self.places[index];
+            Unfinished {
+                source: place.source,
+                length: place.length,
+                bytes: &place.bytes[..place.length.min(LONGEST_DATAGRAM)],
+            }
+        })
+    }
+
+    /// The unfinished bytes kept for this source, or nothing where none are kept.
+    #[must_use]
+    pub fn unfinished_of(&self, source: u16) -> Option<&[u8]> {
+        self.find(source).map(|index| {
+            let place = &self.places[index];
+            &place.bytes[..place.length.min(LONGEST_DATAGRAM)]
+        })
+    }
+
+    /// Whether both states keep the same unfinished datagrams, in whatever order.
+    #[must_use]
+    pub fn keeps_the_same_as(&self, other: &Self) -> bool {
+        let count_in = |state: &Self, entry: Unfinished| {
+            state.unfinished().filter(|found| *found == entry).count()
+        };
+        self.in_use.count_ones() == other.in_use.count_ones()
+            && self
+                .unfinished()
+                .all(|entry| count_in(self, entry) == count_in(other, entry))
+    }
+
+    /// B7: every length at most 72, every source at most 4,095, no source twice.
+    pub fn check(&self) -> Result<(), HouseNumber> {
+        let mut left = self.in_use;
+        while left != 0 {
+            let place = &self.places[left.trailing_zeros() as usize];
+            left &= left - 1;
+            if place.length > LONGEST_DATAGRAM
+                || place.source > LAST_ALIAS
+                || indices(left).any(|later| self.places[later].source == place.source)
+            {
+                return Err(HouseNumber::B7);
+            }
+        }
+        Ok(())
+    }
+
+    /// The place that holds this source's unfinished datagram.
+    pub(crate) fn find(&self, source: u16) -> Option<usize> {
+        indices(self.in_use).find(|&index| self.places[index].source == source)
+    }
+
+    /// Opens a datagram in a free place; false, with no change, where all eight are in use.
+    /// The data are at most 8 bytes.
+    pub(crate) fn open(&mut self, source: u16, data: &[u8]) -> bool {
+        let index = self.in_use.trailing_ones() as usize;
+        let Some(place) = self.places.get_mut(index) else {
+            return false;
+        };
+        place.source = source;
+        place.length = data.len();
+        place.bytes[..data.len()].copy_from_slice(data);
+        self.in_use |= 1 << index;
+        true
+    }
+
+    /// Appends to the datagram in this place; false, with no change, where the total would go
+    /// past 72 bytes.
+    pub(crate) fn append(&mut self, index: usize, data: &[u8]) -> bool {
+        let place = &mut self.places[index];
+        let total = place.length + data.len();
+        let Some(room) = place.bytes.get_mut(place.length..total) else {
+            return false;
+        };
+        room.copy_from_slice(data);
+        place.length = total;
+        true
+    }
+
+    /// The bytes joined so far in this place. The state has been checked.
+    pub(crate) fn joined(&self, index: usize) -> &[u8] {
+        let place = &self.places[index];
+        &place.bytes[..place.length]
+    }
+
+    /// Frees this place.
+    pub(crate) fn free(&mut self, index: usize) {
+        self.in_use &= !(1 << index);
+    }
+}
+
+/// The numbers of the bits at 1.
+fn indices(bits: u8) -> impl Iterator<Item = usize> {
+    let mut left = bits;
+    core::iter::from_fn(move || {
+        if left == 0 {
+            return None;
+        }
+        let index = left.trailing_zeros() as usize;
+        left &= left - 1;
+        Some(index)
+    })
+}

@@ -1,0 +1,198 @@
+//! Holds what several test files share: hex text, a board with everything in it, and its answers.
+#![allow(dead_code)]
+
+use model::{
+    demo_board, handle_datagram, handle_frame, Answer, Description, FrameAnswer, HouseNumber,
+    Reception, Space, Unfinished,
+};
+
+/// What fills a reply buffer before a call.
+pub const FILL: u8 = 0xA5;
+
+pub fn hex(text: &str) -> Vec<u8> {
+    let digits: String = text.split_whitespace().collect();
+    assert_eq!(digits.len() % 2, 0);
+    (0..digits.len())
+        .step_by(2)
+        .map(|at| u8::from_str_radix(&digits[at..at + 2], 16).unwrap())
+        .collect()
+}
+
+pub const fn space(number: u8, lowest: u32, highest: u32, offset: u32) -> Space {
+    Space {
+        number,
+        lowest,
+        highest,
+        read_only: false,
+        in_flash: false,
+        offset,
+    }
+}
+
+pub const fn read_only(space: Space) -> Space {
+    Space {
+        read_only: true,
+        ..space
+    }
+}
+
+pub const fn in_flash(space: Space) -> Space {
+    Space {
+        read_only: true,
+        in_flash: true,
+        ..space
+    }
+}
+
+/// A board whose every part may be set.
+#[derive(Clone)]
+pub struct Bench {
+    pub alias: u16,
+    pub write_lengths: u8,
+    pub spaces: Vec<Space>,
+    pub flash: Vec<u8>,
+    pub memory: Vec<u8>,
+    pub lock: [u8; 6],
+    pub reception: Reception,
+    pub reply: Vec<u8>,
+}
+
+impl Bench {
+    pub fn demo() -> Self {
+        let board = demo_board();
+        Self {
+            alias: board.description.alias,
+            write_lengths: board.description.write_lengths,
+            spaces: board.description.spaces.to_vec(),
+            flash: board.flash.to_vec(),
+            memory: board.memory.to_vec(),
+            lock: board.lock,
+            reception: board.reception,
+            reply: vec![FILL; 80],
+        }
+    }
+
+    pub fn with_spaces(spaces: &[Space]) -> Self {
+        Self {
+            spaces: spaces.to_vec(),
+            ..Self::demo()
+        }
+    }
+
+    pub fn datagram(&mut self, datagram: &[u8]) -> Result<Answer, HouseNumber> {
+        let description = Description {
+            alias: self.alias,
+            write_lengths: self.write_lengths,
+            spaces: &self.spaces,
+        };
+        handle_datagram(
+            &description,
+            &self.flash,
+            &mut self.memory,
+            &mut self.lock,
+            datagram,
+            &mut self.reply,
+        )
+    }
+
+    pub fn frame(&mut self, header: u32, data: &[u8]) -> Result<FrameAnswer, HouseNumber> {
+        let description = Description {
+            alias: self.alias,
+            write_lengths: self.write_lengths,
+            spaces: &self.spaces,
+        };
+        handle_frame(
+            &description,
+            &self.flash,
+            &mut self.memory,
+            &mut self.lock,
+            &mut self.reception,
+            header,
+            data,
+            &mut self.reply,
+        )
+    }
+
+    /// Sends a datagram and gives the answer as text: `rejected 1080`, `ok`, or the reply in hex.
+    /// Holds the rules about what stays untouched to it.
+    pub fn say(&mut self, datagram: &str) -> String {
+        let before = self.clone();
+        self.reply.fill(FILL);
+        match self.datagram(&hex(datagram)).expect("no house number") {
+            Answer::Rejected(code) => {
+                assert_eq!(self.memory, before.memory);
+                assert_eq!(self.lock, before.lock);
+                assert!(self.reply.iter().all(|&byte| byte == FILL));
+                format!("rejected {code:04X}")
+            }
+            Answer::ReceivedOk => {
+                assert_eq!(self.lock, before.lock);
+                assert!(self.reply.iter().all(|&byte| byte == FILL));
+                "ok".to_string()
+            }
+            Answer::Replied(length) => {
+                assert!(length <= 72);
+                assert_eq!(self.memory, before.memory);
+                assert!(self.reply[length..].iter().all(|&byte| byte == FILL));
+                self.reply[..length]
+                    .iter()
+                    .map(|byte| format!("{byte:02X}"))
+                    .collect()
+            }
+        }
+    }
+
+    /// Asserts that every part that document 01 speaks of is the same.
+    pub fn assert_same(&self, other: &Self) {
+        assert_eq!(self.memory, other.memory);
+        assert_eq!(self.flash, other.flash);
+        assert_eq!(self.lock, other.lock);
+        assert_eq!(self.reply, other.reply);
+        assert!(self.reception.keeps_the_same_as(&other.reception));
+    }
+
+    /// Asserts that nothing was touched, not even the places of the reception state.
+    pub fn assert_as(&self, before: &Self) {
+        self.assert_same(before);
+        let places = |bench: &Self| format!("{:?}", bench.reception);
+        assert_eq!(places(self), places(before));
+    }
+
+    /// The entries of the reception state, sorted.
+    pub fn kept(&self) -> Vec<(u16, Vec<u8>)> {
+        let mut kept: Vec<_> = self
+            .reception
+            .unfinished()
+            .map(|entry| {
+                assert_eq!(entry.length, entry.bytes.len());
+                (entry.source, entry.bytes.to_vec())
+            })
+            .collect();
+        kept.sort();
+        kept
+    }
+}
+
+pub fn entry(source: u16, length: usize, bytes: &[u8]) -> Unfinished<'_> {
+    Unfinished {
+        source,
+        length,
+        bytes,
+    }
+}
+
+pub fn single(source: u32) -> u32 {
+    0x1A22_B000 | source
+}
+
+pub fn first(source: u32) -> u32 {
+    0x1B22_B000 | source
+}
+
+pub fn middle(source: u32) -> u32 {
+    0x1C22_B000 | source
+}
+
+pub fn last(source: u32) -> u32 {
+    0x1D22_B000 | source
+}
