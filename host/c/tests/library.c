@@ -1053,7 +1053,11 @@ static size_t random_datagram(const struct bujorelm_description *d, uint8_t *byt
                                        0x43, 0x80, 0x84, 0x88, 0xA8, 0x44, 0x60, 0x50, 0xA9};
     const uint8_t command = commands[random_below(sizeof commands)];
     const struct bujorelm_space *const s = &d->spaces[random_below((uint32_t)d->count + 1) % BUJORELM_SPACES_MAX];
-    const uint32_t address = s->lowest + random_below(s->highest - s->lowest + 3 == 0 ? 1 : s->highest - s->lowest + 3) - random_below(2);
+    /* Inside, or up to two bytes outside. Each random number has a statement of its own, so that every compiler draws them in one order. */
+    const uint32_t inside = random_below(s->highest - s->lowest + 3);
+    const uint32_t below = random_below(2);
+    const uint32_t address = s->lowest + inside - below;
+    uint32_t changed;
     size_t len = 2;
 
     random_bytes(bytes, 72);
@@ -1084,7 +1088,8 @@ static size_t random_datagram(const struct bujorelm_description *d, uint8_t *byt
         len = random_below(73);
         break;
     case 1:
-        bytes[random_below(8)] = (uint8_t)random_number();
+        changed = random_below(8);
+        bytes[changed] = (uint8_t)random_number();
         break;
     default:
         break;
@@ -1128,7 +1133,8 @@ static size_t random_frame(const struct bujorelm_description *d, struct sender *
         *header = header_of(SINGLE + random_below(4), d->alias, source);
         break;
     case 2:
-        *header = header_of(SINGLE + random_below(4), aliases[random_below(SOURCES)], source);
+        *header = random_below(4) + SINGLE;
+        *header = header_of(*header, aliases[random_below(SOURCES)], source);
         break;
     case 3:
         *header = random_number();
