@@ -1,6 +1,8 @@
 """Tests of the reference host: document 01's session and odd lines on standard input, and several tools at once on TCP.
 
-Usage: python3 host_test.py HOST
+Usage: python3 host_test.py HOST [STEP]
+
+The session is cut at every size of a read that is STEP or a multiple of it: at each one if it is left out.
 """
 
 import fcntl
@@ -16,6 +18,7 @@ import termios
 import time
 
 HOST = sys.argv[1]
+STEP = int(sys.argv[2]) if len(sys.argv) > 2 else 1
 
 # How long anything that must happen may take, in seconds.
 PATIENCE = 20
@@ -95,7 +98,7 @@ def test_session():
     expect(run(SESSION_IN[:-1]), SESSION_OUT, "the session without its last newline")
     with_odd_lines = SESSION_IN.replace(b"\n", b"\n?\n") + b":X"
     wanted_odd = run_cut(with_odd_lines, len(with_odd_lines))
-    for size in range(1, len(SESSION_IN) + 1):
+    for size in range(STEP, len(SESSION_IN) + 1, STEP):
         expect(run_cut(SESSION_IN, size), SESSION_OUT, f"the session in reads of {size}")
     for size in (1, 2, 3, 5, 7, 11, 13, 28, 29, 30, 31):
         expect(run_cut(with_odd_lines, size), wanted_odd, f"odd lines in reads of {size}")
@@ -326,8 +329,9 @@ def test_many_tools():
             for line in set(view):
                 if b"N20A8" not in line:
                     expect(view.count(line), each // 2, f"how often {line!r} was sent")
+        ready, _, _ = select.select([tool.socket for tool in tools], [], [], 0.1)
+        expect(([tool.got for tool in tools], ready), ([b""] * count, []), "anything more")
         for tool in tools:
-            tool.expect_nothing("anything more")
             tool.close()
 
 

@@ -126,6 +126,8 @@ static void test_layout(void)
     struct bujorelm_cut_frames cut;
     static const uint8_t eight[8] = {1, 2, 3, 4, 5, 6, 7, 8};
 
+    /* docs/DRIVER.md says so. */
+    CHECK(sizeof b.node == 920);
     for (size_t i = 0; i < BUJORELM_PLACES; i++) {
         CHECK(!state.places[i].held && state.places[i].len == 0 && state.places[i].source == 0);
     }
