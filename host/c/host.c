@@ -4,7 +4,8 @@
  *   host              reads lines from standard input and writes the board's answers to standard output
  *   host --port N     serves lines on TCP port N of the loopback, N = 0 for any free one; the port is printed first
  *
- * A line ends with a newline; the last of an input may lack it. A line that is no frame is answered by `?`.
+ * A line ends with a newline; the last of an input may lack it. A line that is no frame is answered by `?`. A tool that puts no newline
+ * behind its frames, or a carriage return before it, is not understood: document 01 has it so.
  *
  * On TCP every tool that is connected is on one bus with the board: a frame from one of them is seen by all others, and the board's
  * answers are seen by all, in one order. A `?` is no frame, so it goes to the tool that sent the line and to nobody else.

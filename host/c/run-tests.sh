@@ -26,13 +26,13 @@ done
 mkdir -p "$out"
 
 warnings="-Wall -Wextra -Wpedantic -Wconversion -Wshadow -Werror"
-c="-std=c99 $warnings -Wstrict-prototypes -Wmissing-prototypes -I $here/include -I $here"
+c="-std=c99 $warnings -Wstrict-prototypes -Wmissing-prototypes"
 sanitizers="-O1 -g -fsanitize=address,undefined -fno-sanitize-recover=all"
 
 # compile NAME FLAGS SOURCE: a program in C, linked with the library. (Flags are words, so they are not quoted.)
 compile() {
     # shellcheck disable=SC2086
-    $CC $c $2 "$here/$3" "$library" -o "$out/$1"
+    $CC $c $2 -I "$here/include" -I "$here" "$here/$3" "$library" -o "$out/$1"
 }
 
 echo "host/c: the header"

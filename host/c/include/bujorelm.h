@@ -13,10 +13,11 @@
  *   is not `const` nothing past its length is touched. Where a length is 0 the pointer is not used and may be NULL.
  * - The buffers of one call must not overlap, but that two `const` ones may be the same bytes.
  * - Structs go in and come back by value. What a call changes in them is in the struct that it returns; the caller's own copy stays as
- *   it was until the caller stores the new one. The helpers at the end of this file do that.
+ *   it was until the caller stores the new one. The inline functions at the end of this file do that.
  * - A `bool` must be 0 or 1. A byte that is neither, as left by memcpy or memset into a struct, is the caller's fault and what then
  *   happens is not determined. Padding bytes mean nothing.
- * - There is no other input that a function cannot take: every other wrong value is refused by a number, and then nothing changes.
+ * - Apart from that, and from pointers that do not lead to as many bytes as they should, there is no input that a function cannot take:
+ *   every other wrong value is refused by a number, and then nothing changes.
  *
  * The archive links into x86-64 programs (System V calling convention). The assertions below stop the compiler where the layout of a
  * struct is not the library's.
@@ -366,7 +367,7 @@ struct bujorelm_parsed bujorelm_parse_line(const uint8_t *line, size_t line_len)
    not fit, or the frame's `len` is over 8, nothing is written and `at` is returned. No zero byte is put behind it. */
 size_t bujorelm_print_frame(struct bujorelm_frame frame, uint8_t *out, size_t out_len, size_t at);
 
-/* ---- Helpers ---- */
+/* ---- Inline functions, which spare the caller the handing of structs to and fro ---- */
 
 /*
  * A board with all that it keeps between calls. `flash` and `memory` stay the caller's: they must outlive the node, at the same place.

@@ -1,4 +1,4 @@
-// The header in C++: it compiles, its functions have C linkage, and its helpers work.
+// The header in C++: it compiles, its functions have C linkage, and its inline functions work.
 #include "bujorelm.h"
 
 #include <cstdio>

@@ -128,6 +128,9 @@ def test_lines():
         (b":X1A22B123N2080000000000000;\n", b":X19A4822BN01231080;\n"),
         (b":X1A22B123N208000000000000000;\n", b"?\n"),
         (b":X1C22B123N;\n", b":X19A4822BN01232040;\n"),
+        (b":X1A22B123N2080000000000000;x\n", b"?\n"),
+        (b":X1A22B123N2080000000000000;;\n", b"?\n"),
+        (b":X1A22B123N2080000000000000;" + b"x" * 9000 + b"\n", b"?\n"),
         (b"x" * 100000 + b"\n" + OPTIONS, b"?\n" + one),
         (b":" * 100000, b"?\n"),
         (OPTIONS[:-1] + b";" * 99984 + b"\n" + OPTIONS, b"?\n" + one),
@@ -372,13 +375,15 @@ def test_asks_faster_than_it_listens():
     """A tool that sends many requests before it reads any answer is served in full."""
     with Hub() as hub:
         tool = hub.tool()
-        text = b":X1A22B123N20420000000040;\n" * 20000
-        wanted = run(b":X1A22B123N20420000000040;\n")
+        # More answers than the system's own buffers take.
+        count = 60000
+        text = b":X1A22B123N20420000000040;\n" * count
+        wanted = len(run(b":X1A22B123N20420000000040;\n")) * count
         tool.socket.setblocking(False)
         at = 0
         got = len(tool.got)
         limit = time.monotonic() + PATIENCE
-        while got < len(wanted) * 20000:
+        while got < wanted:
             if time.monotonic() > limit:
                 sys.exit("host_test.py: a tool with many requests is not served")
             # It reads only where it cannot send.
@@ -393,7 +398,7 @@ def test_asks_faster_than_it_listens():
                 if not part:
                     sys.exit("host_test.py: a tool with many requests was dropped")
                 got += len(part)
-        expect(got, len(wanted) * 20000, "the answers to many requests")
+        expect(got, wanted, "the answers to many requests")
         tool.close()
 
 
@@ -415,6 +420,13 @@ def test_rude_tools():
         polite.close()
 
 
+def cpu_time(pid):
+    """The seconds of processor time that a process has taken."""
+    with open(f"/proc/{pid}/stat", encoding="ascii") as file:
+        fields = file.read().rpartition(")")[2].split()
+    return (int(fields[11]) + int(fields[12])) / os.sysconf("SC_CLK_TCK")
+
+
 def test_no_descriptors():
     """Tools past the limit of the system wait; one that goes makes room."""
     with Hub(descriptors=12) as hub:
@@ -423,6 +435,10 @@ def test_no_descriptors():
         limit = time.monotonic() + PATIENCE
         for tool in tools:
             tool.send(b"\n")
+        # While nobody goes, the host waits too, and does not spin.
+        begun = cpu_time(hub.process.pid)
+        time.sleep(0.5)
+        expect(cpu_time(hub.process.pid) - begun < 0.2, True, "idle without descriptors")
         while waiting:
             if time.monotonic() > limit:
                 sys.exit("host_test.py: tools that waited for room are not served")

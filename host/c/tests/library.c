@@ -1,6 +1,6 @@
 /*
  * Tests of the library through its C interface: document 01's session and whole datagrams, every house number and transport refusal, the
- * bounds of every lent buffer, the GridConnect functions, the helpers of the header, and pseudo-random calls.
+ * bounds of every lent buffer, the GridConnect functions, the inline functions of the header, and pseudo-random calls.
  *
  * Usage: library [how many pseudo-random frames]
  */
@@ -22,9 +22,13 @@ struct board {
 static void board_new(struct board *b, const struct bujorelm_description *description, size_t flash_len, size_t memory_len,
                       size_t reply_len)
 {
-    b->flash = guarded_new(flash_len, false);
-    b->memory = guarded_new(memory_len, false);
-    b->reply = guarded_new(reply_len, false);
+    /* Now the one end, now the other lies at a guard. */
+    static bool at_start;
+
+    at_start = !at_start;
+    b->flash = guarded_new(flash_len, at_start);
+    b->memory = guarded_new(memory_len, at_start);
+    b->reply = guarded_new(reply_len, at_start);
     memset(b->reply.bytes, UNTOUCHED, reply_len);
     bujorelm_node_start(&b->node, description, b->flash.bytes, flash_len, b->memory.bytes, memory_len);
 }
@@ -927,7 +931,7 @@ static void test_lines(void)
     CHECK(bujorelm_parse_line((const uint8_t *)":XFFFFFFFFN;", 12).frame.header == 0xFFFFFFFFu);
 }
 
-/* ---- The helpers ---- */
+/* ---- The inline functions ---- */
 
 struct frame_sink {
     struct bujorelm_frame frames[16];
@@ -946,7 +950,7 @@ static bool keep_frame(void *context, const struct bujorelm_frame *frame)
     return true;
 }
 
-static void test_helpers(void)
+static void test_inline_functions(void)
 {
     static const uint8_t read_40[] = {0x20, 0x42, 0, 0, 0, 0, 0x30};
     struct board b;
@@ -1381,7 +1385,7 @@ int main(int argc, char **argv)
     test_cutting();
     test_transport_replies();
     test_lines();
-    test_helpers();
+    test_inline_functions();
     for (unsigned long done = 0; done < frames; done += 500) {
         random_session(500);
     }

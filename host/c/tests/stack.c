@@ -126,7 +126,7 @@ static const struct {
     {"bujorelm_received_ok, bujorelm_rejected", do_transport, 128},
     {"bujorelm_print_frame", do_print, 256},
     {"bujorelm_parse_line", do_parse, 256},
-    {"bujorelm_node_receive (helper)", do_receive, 4608},
+    {"bujorelm_node_receive (inline)", do_receive, 4608},
 };
 
 static size_t most[OPERATIONS];
@@ -212,7 +212,7 @@ static void walk(void)
         measure(HANDLE_FRAME);
         measure(PRINT);
         measure(PARSE);
-        /* The same frame again, from the same state, by way of the helper, which goes on to the next. */
+        /* The same frame again, from the same state, by way of the inline function, which goes on to the next. */
         node = before;
         measure(RECEIVE);
     }
