@@ -38,7 +38,7 @@ compile() {
 echo "host/c: the header"
 for standard in c99 c11 c17; do
     # shellcheck disable=SC2086
-    $CC -std=$standard $warnings -I "$here/include" -x c -fsyntax-only "$here/include/bujorelm.h"
+    echo '#include "bujorelm.h"' | $CC -std=$standard $warnings -I "$here/include" -x c -fsyntax-only -
 done
 for standard in c++98 c++11 c++17; do
     # shellcheck disable=SC2086
