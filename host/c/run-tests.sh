@@ -1,0 +1,72 @@
+#!/bin/sh
+# Builds and runs all tests of the C side: the header in C and C++, the library through it (plain, with sanitizers, under valgrind), the
+# stack that a call takes, the example, docs/DRIVER.md, and the reference host.
+#
+# usage: host/c/run-tests.sh [ROOT]
+#
+# ROOT is the root of the repository (default: the one that this file is in). ROOT/target/staticlib/libdriver.a must be there, as built by
+# `rt staticlib driver`. Everything else is built into ROOT/target/host-c. CC and CXX choose the compilers.
+set -eu
+
+root=${1:-$(dirname "$0")/../..}
+root=$(cd "$root" && pwd)
+here=$root/host/c
+library=$root/target/staticlib/libdriver.a
+out=$root/target/host-c
+
+fail() {
+    echo "host/c: $*" >&2
+    exit 1
+}
+
+[ -f "$library" ] || fail "$library is not there: run rt staticlib driver"
+for program in "${CC:=cc}" "${CXX:=c++}" python3 valgrind; do
+    command -v "$program" > /dev/null || fail "$program is not there"
+done
+mkdir -p "$out"
+
+warnings="-Wall -Wextra -Wpedantic -Wconversion -Wshadow -Werror"
+c="-std=c99 $warnings -Wstrict-prototypes -Wmissing-prototypes"
+sanitizers="-O1 -g -fsanitize=address,undefined -fno-sanitize-recover=all"
+
+# compile NAME FLAGS SOURCE: a program in C, linked with the library. (Flags are words, so they are not quoted.)
+compile() {
+    # shellcheck disable=SC2086
+    $CC $c $2 -I "$here/include" -I "$here" "$here/$3" "$library" -o "$out/$1"
+}
+
+echo "host/c: the header"
+for standard in c99 c11 c17; do
+    # shellcheck disable=SC2086
+    echo '#include "bujorelm.h"' | $CC -std=$standard $warnings -I "$here/include" -x c -fsyntax-only -
+done
+for standard in c++98 c++11 c++17; do
+    # shellcheck disable=SC2086
+    $CXX -std=$standard $warnings -I "$here/include" "$here/tests/header.cpp" "$library" -o "$out/header"
+    "$out/header"
+done
+
+echo "host/c: the library"
+compile library "-O2 -g" tests/library.c
+"$out/library"
+compile library-sanitized "$sanitizers" tests/library.c
+"$out/library-sanitized"
+valgrind --quiet --error-exitcode=1 --leak-check=full --errors-for-leak-kinds=all "$out/library" 20000
+
+echo "host/c: the stack"
+# Functions of the C library are found at the start: to find one at its first call takes stack that is not the call's.
+compile stack "-O2 -Wl,-z,now" tests/stack.c
+"$out/stack"
+
+echo "host/c: the example and docs/DRIVER.md"
+compile example "-O2" example/minimal.c
+compile example-sanitized "$sanitizers" example/minimal.c
+compile host "-O2 -g" host.c
+compile host-sanitized "$sanitizers" host.c
+python3 "$here/tests/document_test.py" "$root/docs/DRIVER.md" "$root" "$out"
+
+echo "host/c: the reference host"
+python3 "$here/tests/host_test.py" "$out/host"
+python3 "$here/tests/host_test.py" "$out/host-sanitized" 7
+
+echo "host/c: all tests passed"

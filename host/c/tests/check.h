@@ -1,0 +1,148 @@
+/* What the test programs share: checks that say where they failed, bytes from hex digits, pseudo-random numbers, and buffers between pages
+   that cannot be touched. */
+#ifndef BUJORELM_CHECK_H
+#define BUJORELM_CHECK_H
+
+#include <stdbool.h>
+#include <stddef.h>
+#include <stdint.h>
+#include <stdio.h>
+#include <stdlib.h>
+#include <string.h>
+#include <sys/mman.h>
+#include <unistd.h>
+
+static unsigned long checks_made;
+static unsigned long checks_failed;
+
+static inline void check_at(bool held, const char *file, int line, const char *text)
+{
+    checks_made++;
+    if (!held) {
+        checks_failed++;
+        /* A broken library fails a random test thousands of times: the first few say enough. */
+        if (checks_failed <= 40) {
+            fprintf(stderr, "%s:%d: does not hold: %s\n", file, line, text);
+        }
+    }
+}
+
+#define CHECK(condition) check_at((condition), __FILE__, __LINE__, #condition)
+
+/* The same within a table or a loop, with a word that says which case it is. */
+#define CHECK_CASE(condition, word)                                                                                                         \
+    do {                                                                                                                                    \
+        const unsigned long failed_before = checks_failed;                                                                                  \
+        check_at((condition), __FILE__, __LINE__, #condition);                                                                              \
+        if (checks_failed != failed_before && checks_failed <= 40) {                                                                        \
+            fprintf(stderr, "    in the case %s\n", (word));                                                                                \
+        }                                                                                                                                   \
+    } while (0)
+
+/* To be returned from main. */
+static inline int check_result(const char *name)
+{
+    if (checks_failed != 0) {
+        fprintf(stderr, "%s: %lu of %lu checks failed\n", name, checks_failed, checks_made);
+        return EXIT_FAILURE;
+    }
+    printf("%s: %lu checks passed\n", name, checks_made);
+    return EXIT_SUCCESS;
+}
+
+static inline void give_up(const char *what)
+{
+    perror(what);
+    exit(EXIT_FAILURE);
+}
+
+/* The bytes of hex digits; blanks between them are skipped. Returns how many there are. */
+static inline size_t from_hex(const char *text, uint8_t *bytes)
+{
+    static const char digits[] = "0123456789ABCDEF";
+    size_t count = 0;
+    unsigned value = 0;
+
+    for (; *text != '\0'; text++) {
+        const char *const digit = strchr(digits, *text);
+
+        if (*text == ' ') {
+            continue;
+        }
+        if (digit == NULL) {
+            fprintf(stderr, "not hex digits: %s\n", text);
+            exit(EXIT_FAILURE);
+        }
+        value = value * 16 + (unsigned)(digit - digits);
+        if (count % 2 == 1) {
+            bytes[count / 2] = (uint8_t)value;
+            value = 0;
+        }
+        count++;
+    }
+    return count / 2;
+}
+
+/* xorshift64: the same numbers in every run. */
+static uint64_t random_state = UINT64_C(0x9E3779B97F4A7C15);
+
+static inline uint32_t random_number(void)
+{
+    random_state ^= random_state << 13;
+    random_state ^= random_state >> 7;
+    random_state ^= random_state << 17;
+    return (uint32_t)(random_state >> 32);
+}
+
+static inline uint32_t random_below(uint32_t bound)
+{
+    return random_number() % bound;
+}
+
+static inline void random_bytes(uint8_t *bytes, size_t len)
+{
+    for (size_t i = 0; i < len; i++) {
+        bytes[i] = (uint8_t)random_number();
+    }
+}
+
+/*
+ * A buffer with a page on each side that faults when touched, so that a read or write outside it ends the program even though the library
+ * is compiled without a sanitizer. The buffer's last byte is the last before the page behind it; with `at_start` its first byte is the first
+ * behind the page before it.
+ */
+struct guarded {
+    uint8_t *bytes;
+    size_t len;
+    void *pages;
+    size_t pages_len;
+};
+
+static inline struct guarded guarded_new(size_t len, bool at_start)
+{
+    const size_t page = (size_t)sysconf(_SC_PAGESIZE);
+    const size_t inner = (len / page + 1) * page;
+    struct guarded g;
+
+    g.len = len;
+    g.pages_len = inner + 2 * page;
+    g.pages = mmap(NULL, g.pages_len, PROT_NONE, MAP_PRIVATE | MAP_ANONYMOUS, -1, 0);
+    if (g.pages == MAP_FAILED) {
+        give_up("mmap");
+    }
+    if (mprotect((uint8_t *)g.pages + page, inner, PROT_READ | PROT_WRITE) != 0) {
+        give_up("mprotect");
+    }
+    g.bytes = (uint8_t *)g.pages + page + (at_start ? 0 : inner - len);
+    return g;
+}
+
+static inline void guarded_free(struct guarded *g)
+{
+    if (munmap(g->pages, g->pages_len) != 0) {
+        give_up("munmap");
+    }
+    g->bytes = NULL;
+}
+
+#endif

@@ -1,0 +1,31 @@
+// The header in C++: it compiles, its functions have C linkage, and its inline functions work.
+#include "bujorelm.h"
+
+#include <cstdio>
+
+static bool count_frame(void *context, const struct bujorelm_frame *)
+{
+    ++*static_cast<int *>(context);
+    return true;
+}
+
+int main()
+{
+    static bujorelm_node node;
+    bujorelm_description description = bujorelm_description();
+    uint8_t memory[4] = {0, 0, 0, 0};
+    const uint8_t options[] = {0x20, 0x80};
+    bujorelm_numbers answer;
+    int frames = 0;
+
+    description.alias = 0x22B;
+    bujorelm_node_start(&node, &description, NULL, 0, memory, sizeof memory);
+    if (bujorelm_node_check(&node) != BUJORELM_HOUSE_NONE ||
+        !bujorelm_node_receive(&node, 0x1A22B123, options, sizeof options, count_frame, &frames, &answer) ||
+        answer.kind != BUJORELM_REPLIED || answer.reply_len != 7 || frames != 2) {
+        std::puts("header: the library does not answer in C++");
+        return 1;
+    }
+    std::puts("header: works in C++");
+    return 0;
+}

@@ -1,0 +1,1401 @@
+/*
+ * Tests of the library through its C interface: document 01's session and whole datagrams, every house number and transport refusal, the
+ * bounds of every lent buffer, the GridConnect functions, the inline functions of the header, and pseudo-random calls.
+ *
+ * Usage: library [how many pseudo-random frames]
+ */
+#define _DEFAULT_SOURCE
+
+#include "check.h"
+#include "demonstration.h"
+
+#define UNTOUCHED 0xC7
+
+/* A board whose lent buffers lie between pages that cannot be touched. */
+struct board {
+    struct bujorelm_node node;
+    struct guarded flash;
+    struct guarded memory;
+    struct guarded reply;
+};
+
+static void board_new(struct board *b, const struct bujorelm_description *description, size_t flash_len, size_t memory_len,
+                      size_t reply_len)
+{
+    /* Now the one end, now the other lies at a guard. */
+    static bool at_start;
+
+    at_start = !at_start;
+    b->flash = guarded_new(flash_len, at_start);
+    b->memory = guarded_new(memory_len, at_start);
+    b->reply = guarded_new(reply_len, at_start);
+    memset(b->reply.bytes, UNTOUCHED, reply_len);
+    bujorelm_node_start(&b->node, description, b->flash.bytes, flash_len, b->memory.bytes, memory_len);
+}
+
+static void board_demonstration(struct board *b)
+{
+    board_new(b, &demonstration_description, sizeof demonstration_flash, DEMONSTRATION_MEMORY_SIZE, BUJORELM_REPLY_MIN);
+    memcpy(b->flash.bytes, demonstration_flash, sizeof demonstration_flash);
+}
+
+static void board_free(struct board *b)
+{
+    guarded_free(&b->flash);
+    guarded_free(&b->memory);
+    guarded_free(&b->reply);
+}
+
+static bool is_untouched(const uint8_t *bytes, size_t from, size_t end)
+{
+    for (size_t i = from; i < end; i++) {
+        if (bytes[i] != UNTOUCHED) {
+            return false;
+        }
+    }
+    return true;
+}
+
+/* Whether the numbers are just those that the kind names. Padding is not compared. */
+static bool is_answer(struct bujorelm_numbers a, uint8_t kind, uint8_t house, uint8_t flags, uint16_t code, size_t reply_len)
+{
+    return a.kind == kind && a.house == house && a.flags == flags && a.code == code && a.reply_len == reply_len;
+}
+
+static bool is_house(struct bujorelm_numbers a, uint8_t house)
+{
+    return is_answer(a, BUJORELM_REFUSED, house, 0, 0, 0);
+}
+
+static bool same_places(const struct bujorelm_reception *a, const struct bujorelm_reception *b)
+{
+    for (size_t i = 0; i < BUJORELM_PLACES; i++) {
+        if (a->places[i].held != b->places[i].held || a->places[i].len != b->places[i].len ||
+            a->places[i].source != b->places[i].source) {
+            return false;
+        }
+    }
+    return true;
+}
+
+static bool nothing_unfinished(const struct bujorelm_node *node)
+{
+    for (size_t i = 0; i < BUJORELM_PLACES; i++) {
+        if (node->reception.places[i].held) {
+            return false;
+        }
+    }
+    return true;
+}
+
+/* The header of a frame with these top five bits. */
+static uint32_t header_of(uint32_t top, uint32_t destination, uint32_t source)
+{
+    return top << 24 | destination << 12 | source;
+}
+
+enum { SINGLE = 0x1A, FIRST = 0x1B, MIDDLE = 0x1C, LAST = 0x1D };
+
+/* A frame to a board, its data from a buffer of its own with a guard behind it. */
+static struct bujorelm_numbers feed(struct board *b, uint32_t header, const uint8_t *data, size_t len)
+{
+    struct guarded payload = guarded_new(len, false);
+    struct bujorelm_numbers answer;
+
+    if (len != 0) {
+        memcpy(payload.bytes, data, len);
+    }
+    answer = bujorelm_node_handle_frame(&b->node, header, payload.bytes, len, b->reply.bytes, b->reply.len);
+    guarded_free(&payload);
+    return answer;
+}
+
+static struct bujorelm_numbers feed_hex(struct board *b, uint32_t top, uint32_t source, const char *hex)
+{
+    uint8_t data[80];
+    const size_t len = from_hex(hex, data);
+
+    return feed(b, header_of(top, b->node.description.alias, source), data, len);
+}
+
+/* ---- Layout ---- */
+
+/* What the header asserts of sizes is true of the library too: a field of every struct goes through a call and comes back in its place. */
+static void test_layout(void)
+{
+    struct board b;
+    struct bujorelm_reception state = bujorelm_new_reception();
+    struct bujorelm_frame_return done;
+    uint8_t pool[BUJORELM_POOL_SIZE + 8];
+    struct bujorelm_cut_frames cut;
+    static const uint8_t eight[8] = {1, 2, 3, 4, 5, 6, 7, 8};
+
+    /* docs/DRIVER.md says so. */
+    CHECK(sizeof b.node == 920);
+    for (size_t i = 0; i < BUJORELM_PLACES; i++) {
+        CHECK(!state.places[i].held && state.places[i].len == 0 && state.places[i].source == 0);
+    }
+
+    board_demonstration(&b);
+    memset(pool, UNTOUCHED, sizeof pool);
+    state.places[0] = (struct bujorelm_place){.held = true, .len = 72, .source = 0xFFF};
+    state.places[7] = (struct bujorelm_place){.held = true, .len = 64, .source = 0x123};
+    b.node.lock = (struct bujorelm_lock){{1, 2, 3, 4, 5, 6}};
+    done = bujorelm_handle_frame(b.node.description, b.flash.bytes, b.flash.len, b.memory.bytes, b.memory.len, b.node.lock, pool, state,
+                                 header_of(MIDDLE, 0x22B, 0x123), eight, 8, b.reply.bytes, b.reply.len);
+    CHECK(is_answer(done.answer, BUJORELM_JOINED, 0, 0, 0, 0));
+    CHECK(done.reception.places[0].held && done.reception.places[0].len == 72 && done.reception.places[0].source == 0xFFF);
+    CHECK(done.reception.places[7].held && done.reception.places[7].len == 72 && done.reception.places[7].source == 0x123);
+    for (size_t i = 1; i < 7; i++) {
+        CHECK(!done.reception.places[i].held);
+    }
+    CHECK(memcmp(done.lock.bytes, b.node.lock.bytes, 6) == 0);
+    /* The pool is a bare pointer to 576 bytes: the data went to its end, and nothing else was touched. */
+    CHECK(is_untouched(pool, 0, 568) && memcmp(pool + 568, eight, 8) == 0 && is_untouched(pool, 576, sizeof pool));
+
+    cut = bujorelm_cut(eight, 8, 0xABC, 0xDEF);
+    CHECK(!cut.refused && cut.count == 1 && cut.frames[0].header == 0x1AABCDEFu && cut.frames[0].len == 8);
+    CHECK(memcmp(cut.frames[0].bytes, eight, 8) == 0);
+
+    /* An empty buffer may have no address. The pages below are lent as empty too, and would fault if they were read. */
+    done = bujorelm_handle_frame(b.node.description, b.flash.bytes, b.flash.len, b.memory.bytes, b.memory.len, b.node.lock, pool,
+                                 bujorelm_new_reception(), header_of(SINGLE, 0x22B, 0x123), NULL, 0, b.reply.bytes, b.reply.len);
+    CHECK(is_answer(done.answer, BUJORELM_REJECTED, 0, 0, 0x1080, 0));
+    b.node.description.count = 0;
+    done = bujorelm_handle_frame(b.node.description, NULL, 0, NULL, 0, b.node.lock, pool, bujorelm_new_reception(),
+                                 header_of(SINGLE, 0x22B, 0x123), (const uint8_t *)"\x20\x80", 2, b.reply.bytes, b.reply.len);
+    CHECK(is_answer(done.answer, BUJORELM_REPLIED, 0, 0x80, 0, 7));
+    done = bujorelm_handle_frame(b.node.description, NULL, 0, NULL, 0, b.node.lock, pool, bujorelm_new_reception(), 0, NULL, 0, NULL, 0);
+    CHECK(is_house(done.answer, BUJORELM_HOUSE_B6));
+    CHECK(bujorelm_cut(NULL, 0, 1, 2).count == 1);
+    CHECK(!bujorelm_parse_line(NULL, 0).good);
+    CHECK(bujorelm_print_frame(cut.frames[0], NULL, 0, 0) == 0);
+    board_free(&b);
+}
+
+/* ---- Document 01's session ---- */
+
+struct line_sink {
+    uint8_t text[2048];
+    size_t len;
+};
+
+static bool print_to_sink(void *context, const struct bujorelm_frame *frame)
+{
+    struct line_sink *const sink = context;
+    const size_t end = bujorelm_print_frame(*frame, sink->text, sizeof sink->text, sink->len);
+
+    if (end == sink->len) {
+        return false;
+    }
+    sink->len = end;
+    return true;
+}
+
+static void test_session(void)
+{
+    static const char *const input[] = {
+        ":X1A22B123N200100000002ABCD;", ":X1B22B123N200800000002FD0F;", ":X1A22B456N20410000000202;", ":X1D22B123N5A;",
+        ":X1A22B456N20410000000202;",   ":X1A22B123N20030000000001;",   ":X1A300123N2080;",
+    };
+    static const uint8_t kinds[] = {
+        BUJORELM_ACCEPTED, BUJORELM_JOINED,  BUJORELM_REPLIED, BUJORELM_ACCEPTED,
+        BUJORELM_REPLIED,  BUJORELM_REPLIED, BUJORELM_IGNORED,
+    };
+    static const char output[] = ":X19A2822BN012300;\n"
+                                 ":X19A2822BN045680;\n"
+                                 ":X1A45622BN205100000002ABCD;\n"
+                                 ":X19A2822BN012300;\n"
+                                 ":X19A2822BN045680;\n"
+                                 ":X1A45622BN205100000002AACD;\n"
+                                 ":X19A2822BN012380;\n"
+                                 ":X1A12322BN201B000000001083;\n";
+    struct board b;
+    struct line_sink sink = {.len = 0};
+
+    board_demonstration(&b);
+    CHECK(bujorelm_node_check(&b.node) == BUJORELM_HOUSE_NONE);
+    for (size_t i = 0; i < sizeof input / sizeof input[0]; i++) {
+        const struct bujorelm_parsed line = bujorelm_parse_line((const uint8_t *)input[i], strlen(input[i]));
+        struct bujorelm_numbers answer;
+
+        CHECK_CASE(line.good, input[i]);
+        CHECK_CASE(bujorelm_node_receive(&b.node, line.frame.header, line.frame.bytes, line.frame.len, print_to_sink, &sink, &answer),
+                   input[i]);
+        CHECK_CASE(answer.kind == kinds[i], input[i]);
+    }
+    CHECK(sink.len == sizeof output - 1 && memcmp(sink.text, output, sink.len) == 0);
+    board_free(&b);
+}
+
+/* ---- Whole datagrams ---- */
+
+struct datagram_case {
+    const char *datagram;
+    uint16_t rejected;  /* the code, or 0 */
+    const char *reply;  /* the reply, or NULL for Received OK 0x00 */
+    const char *memory; /* bytes of memory afterwards, from its start; the others are zero. NULL for no change */
+};
+
+static const struct datagram_case datagram_cases[] = {
+    /* Document 01's list. */
+    {"", 0x1080, NULL, NULL},
+    {"20", 0x1080, NULL, NULL},
+    {"21", 0x1042, NULL, NULL},
+    {"2044", 0x1041, NULL, NULL},
+    {"20410000001F40", 0, "20510000001F00", NULL},
+    {"20410000002001", 0, "2059000000201082", NULL},
+    {"204300000000C0", 0, "205300000000 3C6364692F3E 00000000000000000000", NULL},
+    {"20430000000080", 0x1080, NULL, NULL},
+    {"20430000000041", 0x1080, NULL, NULL},
+    {"20010000001F1122", 0, "20190000001F1082", NULL},
+    {"20030000002001", 0, "201B000000201083", NULL},
+    {"2009000000000F", 0x1080, NULL, NULL},
+    {"208410", 0, "2087100000010F0200000100", NULL},
+    {"208411", 0, "2086110000000000", NULL},
+
+    /* Wrong readings that it names: a count of zero is no count; a byte behind the address is data, not a space number; a mask of zero
+       keeps every bit. */
+    {"20410000000000", 0x1080, NULL, NULL},
+    {"200100000000FD", 0, NULL, "FD"},
+    {"2009000000000055", 0, NULL, ""},
+
+    /* The order of the rejections. */
+    {"00", 0x1042, NULL, NULL},
+    {"2144", 0x1042, NULL, NULL},
+    {"2004", 0x1041, NULL, NULL},
+    {"2050", 0x1041, NULL, NULL},
+    {"2082", 0x1041, NULL, NULL},
+    {"20A9", 0x1041, NULL, NULL},
+    {"2041", 0x1080, NULL, NULL},
+    {"204000000000FD", 0x1080, NULL, NULL},
+    {"204100000000", 0x1080, NULL, NULL},
+    {"2041000000000102", 0x1080, NULL, NULL},
+
+    /* Reads: a space by byte 6, the last byte of a space, an unknown space, an address below. */
+    {"204000000000FD01", 0, "205000000000FD00", NULL},
+    {"2040000001001040", 0, "2050000001001000000000000000000000000000000000", NULL},
+    {"2040000000FF1001", 0, "2058000000FF101082", NULL},
+    {"2040000001101001", 0, "205800000110101082", NULL},
+    {"2040000000001101", 0, "205800000000111081", NULL},
+    {"2041FFFFFFFF40", 0, "2059FFFFFFFF1082", NULL},
+    {"20420000002F7F", 0x1080, NULL, NULL},
+    {"20420000002FC0", 0, "20520000002F00", NULL},
+
+    /* Writes: to the last byte, past it, by byte 6, to an unknown and to a read-only space (before the address). */
+    {"20010000000011", 0, NULL, "11"},
+    {"200000000000FD1122", 0, NULL, "1122"},
+    {"200000000000FD", 0x1080, NULL, NULL},
+    {"200100000000", 0x1080, NULL, NULL},
+    {"2000000001001099", 0, NULL, "00000000000000000000000000000000 00000000000000000000000000000000 99"},
+    {"20000000000011AA", 0, "201800000000111081", NULL},
+    {"200000000010FFAA", 0, "201800000010FF1083", NULL},
+    {"2001FFFFFFFF11", 0, "2019FFFFFFFF1082", NULL},
+
+    /* Masked writes: bits of the mask only; half a pair; a read-only space; past the end. */
+    {"2009000000000FFF", 0, NULL, "0F"},
+    {"2009000000000F5AF0A5", 0, NULL, "0AA0"},
+    {"200900000000", 0x1080, NULL, NULL},
+    {"200B0000000000FF", 0, "201B000000001083", NULL},
+    {"20090000001FFFFFFFFF", 0, "20190000001F1082", NULL},
+    {"2008000000FF10FFFF", 0, "2018000000FF101082", NULL},
+
+    /* Options, space information, lock, update complete. */
+    {"2080", 0, "2082E000F2FF10", NULL},
+    {"208000", 0x1080, NULL, NULL},
+    {"2084FD", 0, "2087FD0000001F00", NULL},
+    {"2084FF", 0, "2087FF0000000F01", NULL},
+    {"2084", 0x1080, NULL, NULL},
+    {"2084FD00", 0x1080, NULL, NULL},
+    {"2088050101010203", 0, "208A050101010203", NULL},
+    {"20880501010102", 0x1080, NULL, NULL},
+    {"20A8", 0, NULL, ""},
+    {"20A800", 0x1080, NULL, NULL},
+};
+
+/* Checks an answer against its case, however the datagram came to the board. */
+static void check_case(const struct datagram_case *c, const struct board *b, struct bujorelm_numbers answer)
+{
+    uint8_t expected[80];
+    uint8_t memory[DEMONSTRATION_MEMORY_SIZE] = {0};
+    size_t len = 0;
+
+    if (c->rejected != 0) {
+        CHECK_CASE(is_answer(answer, BUJORELM_REJECTED, 0, 0, c->rejected, 0), c->datagram);
+    } else if (c->reply == NULL) {
+        CHECK_CASE(is_answer(answer, BUJORELM_ACCEPTED, 0, 0x00, 0, 0), c->datagram);
+    } else {
+        len = from_hex(c->reply, expected);
+        CHECK_CASE(is_answer(answer, BUJORELM_REPLIED, 0, 0x80, 0, len), c->datagram);
+        CHECK_CASE(memcmp(b->reply.bytes, expected, len) == 0, c->datagram);
+    }
+    CHECK_CASE(is_untouched(b->reply.bytes, len, b->reply.len), c->datagram);
+    if (c->memory != NULL) {
+        from_hex(c->memory, memory);
+    }
+    CHECK_CASE(memcmp(b->memory.bytes, memory, sizeof memory) == 0, c->datagram);
+    CHECK_CASE(memcmp(b->flash.bytes, demonstration_flash, sizeof demonstration_flash) == 0, c->datagram);
+}
+
+/* Sends a datagram in frames that the library cuts, and returns the answer to the last of them. */
+static struct bujorelm_numbers feed_cut(struct board *b, const uint8_t *datagram, size_t len, uint16_t source)
+{
+    const struct bujorelm_cut_frames cut = bujorelm_cut(datagram, len, b->node.description.alias, source);
+    struct bujorelm_numbers answer = {0, 0, 0, 0, 0};
+
+    CHECK(!cut.refused);
+    for (size_t i = 0; i < cut.count; i++) {
+        answer = feed(b, cut.frames[i].header, cut.frames[i].bytes, cut.frames[i].len);
+        if (i + 1 < cut.count) {
+            CHECK(is_answer(answer, BUJORELM_JOINED, 0, 0, 0, 0));
+            CHECK(is_untouched(b->reply.bytes, 0, b->reply.len));
+        }
+    }
+    return answer;
+}
+
+static void test_datagrams(void)
+{
+    for (size_t i = 0; i < sizeof datagram_cases / sizeof datagram_cases[0]; i++) {
+        const struct datagram_case *const c = &datagram_cases[i];
+        struct board b;
+        uint8_t bytes[80];
+        const size_t len = from_hex(c->datagram, bytes);
+        struct guarded datagram = guarded_new(len, false);
+
+        memcpy(datagram.bytes, bytes, len);
+        board_demonstration(&b);
+        check_case(c, &b, bujorelm_node_handle_datagram(&b.node, datagram.bytes, len, b.reply.bytes, b.reply.len));
+        board_free(&b);
+        guarded_free(&datagram);
+
+        board_demonstration(&b);
+        check_case(c, &b, feed_cut(&b, bytes, len, 0x123));
+        CHECK_CASE(nothing_unfinished(&b.node), c->datagram);
+        board_free(&b);
+    }
+}
+
+/* The longest commands, which a line of a table would not hold. */
+static void test_longest(void)
+{
+    struct board b;
+    struct bujorelm_description d = demonstration_description;
+    uint8_t datagram[80];
+    struct bujorelm_numbers answer;
+
+    /* 64 bytes written and read back, by byte 6: 72 bytes is the longest datagram. */
+    d.count = 1;
+    d.spaces[0] = (struct bujorelm_space){
+        .number = 0x20, .read_only = false, .in_flash = false, .lowest = 0xFFFF0000u, .highest = 0xFFFFFFFFu, .offset = 0};
+    board_new(&b, &d, 0, BUJORELM_STORE_MAX, BUJORELM_REPLY_MIN);
+    from_hex("2000 FFFFFFC0 20", datagram);
+    for (size_t i = 0; i < 65; i++) {
+        datagram[7 + i] = (uint8_t)(i + 1);
+    }
+    answer = feed_cut(&b, datagram, 71, 0x123);
+    CHECK(is_answer(answer, BUJORELM_ACCEPTED, 0, 0x00, 0, 0));
+    CHECK(memcmp(b.memory.bytes + BUJORELM_STORE_MAX - 64, datagram + 7, 64) == 0);
+    answer = bujorelm_node_handle_datagram(&b.node, datagram, 72, b.reply.bytes, b.reply.len);
+    CHECK(is_answer(answer, BUJORELM_REJECTED, 0, 0, 0x1080, 0));
+    from_hex("2040 FFFFFFC0 20 40", datagram);
+    answer = feed_cut(&b, datagram, 8, 0x123);
+    CHECK(is_answer(answer, BUJORELM_REPLIED, 0, 0x80, 0, 71));
+    CHECK(memcmp(b.reply.bytes, "\x20\x50\xFF\xFF\xFF\xC0\x20", 7) == 0);
+    CHECK(memcmp(b.reply.bytes + 7, b.memory.bytes + BUJORELM_STORE_MAX - 64, 64) == 0);
+    CHECK(is_untouched(b.reply.bytes, 71, 72));
+
+    /* Any number of bytes may be handed over whole. */
+    for (size_t len = 73; len <= 80; len++) {
+        struct guarded whole = guarded_new(len, false);
+
+        memset(whole.bytes, 0x20, len);
+        answer = bujorelm_node_handle_datagram(&b.node, whole.bytes, len, b.reply.bytes, b.reply.len);
+        CHECK(is_answer(answer, BUJORELM_REJECTED, 0, 0, 0x1080, 0));
+        guarded_free(&whole);
+    }
+    board_free(&b);
+}
+
+/* The lock memory: taken over zero only, released by a zero ID whoever sends, and of no effect on reads and writes. */
+static void test_lock(void)
+{
+    static const char *const steps[][2] = {
+        {"2088000000000000", "208A000000000000"}, {"2088050101010203", "208A050101010203"}, {"2088050101010204", "208A050101010203"},
+        {"2088000000000000", "208A000000000000"}, {"2088050101010204", "208A050101010204"},
+    };
+    struct board b;
+    uint8_t expected[8];
+
+    board_demonstration(&b);
+    for (size_t i = 0; i < sizeof steps / sizeof steps[0]; i++) {
+        const struct bujorelm_numbers answer = feed_hex(&b, SINGLE, 0x123 + (uint32_t)i, steps[i][0]);
+
+        from_hex(steps[i][1], expected);
+        CHECK_CASE(is_answer(answer, BUJORELM_REPLIED, 0, 0x80, 0, 8), steps[i][0]);
+        CHECK_CASE(memcmp(b.reply.bytes, expected, 8) == 0, steps[i][0]);
+        CHECK_CASE(memcmp(b.node.lock.bytes, expected + 2, 6) == 0, steps[i][0]);
+    }
+    CHECK(feed_hex(&b, SINGLE, 0x777, "20010000000042").kind == BUJORELM_ACCEPTED);
+    CHECK(b.memory.bytes[0] == 0x42);
+    CHECK(memcmp(b.node.lock.bytes, expected + 2, 6) == 0);
+    board_free(&b);
+}
+
+/* 0xFD, 0xFE and 0xFF are known where they are left out. */
+static void test_left_out(void)
+{
+    static const char *const cases[][2] = {
+        {"20410000000001", "2059000000001082"}, {"20420000000001", "205A000000001082"},     {"20430000000001", "205B000000001082"},
+        {"20010000000001", "2019000000001082"}, {"20030000000001", "201B000000001083"},     {"2084FD", "2086FD0000000000"},
+        {"2080", "2082E00000FFFD"},             {"2040000000001001", "205800000000101081"},
+    };
+    struct board b;
+    struct bujorelm_description none;
+
+    memset(&none, 0, sizeof none);
+    none.alias = 1;
+    for (size_t i = 0; i < sizeof cases / sizeof cases[0]; i++) {
+        uint8_t expected[16];
+        const size_t len = from_hex(cases[i][1], expected);
+        struct bujorelm_numbers answer;
+
+        board_new(&b, &none, 0, 0, BUJORELM_REPLY_MIN);
+        answer = feed_hex(&b, SINGLE, 0xFFF, cases[i][0]);
+        CHECK_CASE(is_answer(answer, BUJORELM_REPLIED, 0, 0x80, 0, len), cases[i][0]);
+        CHECK_CASE(memcmp(b.reply.bytes, expected, len) == 0, cases[i][0]);
+        board_free(&b);
+    }
+}
+
+/* ---- House numbers ---- */
+
+/* A board that is refused: both calls say so, and nothing changes. `datagrams` is false for B7, which the call for a datagram lacks. */
+static void check_refused(struct board *b, uint8_t house, bool datagrams, const char *word)
+{
+    /* Would be a write, and the opening of a datagram. */
+    static const uint8_t write[] = {0x20, 0x01, 0, 0, 0, 0, 0x77};
+    const struct bujorelm_node before = b->node;
+    uint8_t *const memory = malloc(b->memory.len + 1);
+
+    if (memory == NULL) {
+        give_up("malloc");
+    }
+    memcpy(memory, b->memory.bytes, b->memory.len);
+    CHECK_CASE(is_house(feed(b, header_of(SINGLE, 0x22B, 0x123), write, sizeof write), house), word);
+    CHECK_CASE(is_house(feed(b, header_of(FIRST, 0x22B, 0x124), write, sizeof write), house), word);
+    CHECK_CASE(is_house(feed(b, 0, NULL, 0), house), word);
+    if (datagrams) {
+        CHECK_CASE(is_house(bujorelm_node_handle_datagram(&b->node, write, sizeof write, b->reply.bytes, b->reply.len), house), word);
+    }
+    CHECK_CASE(same_places(&b->node.reception, &before.reception), word);
+    CHECK_CASE(memcmp(b->node.lock.bytes, before.lock.bytes, 6) == 0, word);
+    CHECK_CASE(memcmp(b->node.pool, before.pool, sizeof before.pool) == 0, word);
+    CHECK_CASE(memcmp(b->memory.bytes, memory, b->memory.len) == 0, word);
+    CHECK_CASE(is_untouched(b->reply.bytes, 0, b->reply.len), word);
+    free(memory);
+}
+
+static void check_description_refused(const struct bujorelm_description *d, size_t flash_len, size_t memory_len, size_t reply_len,
+                                      uint8_t house, const char *word)
+{
+    struct board b;
+
+    board_new(&b, d, flash_len, memory_len, reply_len);
+    /* The state is bad as well: B7 comes after all the others. */
+    b.node.reception.places[3] = (struct bujorelm_place){.held = true, .len = 73, .source = 5};
+    b.node.lock.bytes[2] = 9;
+    check_refused(&b, house, true, word);
+    board_free(&b);
+}
+
+static void check_accepted(const struct bujorelm_description *d, size_t flash_len, size_t memory_len, const char *word)
+{
+    struct board b;
+
+    board_new(&b, d, flash_len, memory_len, BUJORELM_REPLY_MIN);
+    CHECK_CASE(bujorelm_node_check(&b.node) == BUJORELM_HOUSE_NONE, word);
+    CHECK_CASE(is_answer(feed(&b, 0, NULL, 0), BUJORELM_IGNORED, 0, 0, 0, 0), word);
+    board_free(&b);
+}
+
+static void test_house_numbers(void)
+{
+    const struct bujorelm_description good = demonstration_description;
+    struct bujorelm_description d;
+
+    check_accepted(&good, 16, 48, "the demonstration board");
+
+    d = good;
+    d.count = 17;
+    check_description_refused(&d, 16, 48, 72, 1, "17 spaces");
+    d.count = SIZE_MAX;
+    check_description_refused(&d, 16, 48, 72, 1, "more spaces than can be");
+    d = good;
+    check_description_refused(&d, 65537, 48, 72, 1, "flash of 65,537 bytes");
+    check_description_refused(&d, 16, 65537, 72, 1, "memory of 65,537 bytes");
+    check_accepted(&d, 65536, 65536, "65,536 bytes of both");
+    d.alias = 0;
+    check_description_refused(&d, 16, 48, 72, 1, "alias 0");
+    d.alias = 4096;
+    check_description_refused(&d, 16, 48, 72, 1, "alias 4,096");
+    d.alias = 0xFFFF;
+    check_description_refused(&d, 16, 48, 72, 1, "alias 65,535");
+    d.alias = 4095;
+    check_accepted(&d, 16, 48, "alias 4,095");
+    d.alias = 1;
+    check_accepted(&d, 16, 48, "alias 1");
+
+    d = good;
+    d.spaces[1].lowest = 0x30;
+    check_description_refused(&d, 16, 48, 72, 2, "lowest above highest");
+    d.spaces[1].lowest = 0x2F;
+    d.spaces[1].offset = 47;
+    check_accepted(&d, 16, 48, "a space of one byte at the end of memory");
+    d.spaces[1].offset = 48;
+    check_description_refused(&d, 16, 48, 72, 3, "a space of one byte past the end of memory");
+    d = good;
+    check_description_refused(&d, 16, 47, 72, 3, "memory a byte short");
+    check_description_refused(&d, 15, 48, 72, 3, "flash a byte short");
+    d.spaces[0].offset = UINT32_MAX;
+    check_description_refused(&d, 16, 48, 72, 3, "the greatest offset");
+    d.spaces[0].highest = UINT32_MAX;
+    check_description_refused(&d, 16, 48, 72, 3, "the greatest offset of the greatest space");
+
+    d = good;
+    d.spaces[2].read_only = false;
+    check_description_refused(&d, 16, 48, 72, 4, "writable in flash");
+    d.spaces[2].in_flash = false;
+    check_description_refused(&d, 16, 48, 72, 4, "0xFF writable in memory");
+    d.spaces[2].read_only = true;
+    check_accepted(&d, 16, 48, "0xFF read-only in memory");
+    d = good;
+    d.spaces[3].in_flash = true;
+    d.spaces[3].offset = 0;
+    check_description_refused(&d, 16, 48, 72, 4, "another space writable in flash");
+
+    d = good;
+    d.spaces[3].number = 0xFD;
+    check_description_refused(&d, 16, 48, 72, 5, "a number twice");
+    d.count = 3;
+    check_accepted(&d, 16, 48, "the second of them not described");
+    d = good;
+    for (size_t i = 0; i < 16; i++) {
+        d.spaces[i] = good.spaces[0];
+        d.spaces[i].number = (uint8_t)i;
+    }
+    d.count = 16;
+    check_accepted(&d, 16, 48, "16 spaces");
+    d.spaces[15].number = 0;
+    check_description_refused(&d, 16, 48, 72, 5, "the sixteenth as the first");
+
+    /* The first that applies: B1 before all; one space after the other; within a space B2, B3, B4, B5; then B6. */
+    d = good;
+    d.spaces[1].number = 0xFD;
+    d.spaces[1].in_flash = true;
+    d.spaces[1].offset = 1000;
+    d.spaces[1].lowest = 0x30;
+    d.spaces[3].lowest = 0x110;
+    d.alias = 0;
+    check_description_refused(&d, 16, 48, 71, 1, "B1 first");
+    d.alias = 1;
+    check_description_refused(&d, 16, 48, 71, 2, "then B2");
+    d.spaces[1].lowest = 0;
+    check_description_refused(&d, 16, 48, 71, 3, "then B3");
+    d.spaces[1].highest = 0;
+    d.spaces[1].offset = 0;
+    check_description_refused(&d, 16, 48, 71, 4, "then B4");
+    d.spaces[1].in_flash = false;
+    check_description_refused(&d, 16, 48, 71, 5, "then B5, before the last space's B2");
+    d.spaces[1].number = 0xFE;
+    check_description_refused(&d, 16, 48, 71, 2, "then the last space's B2");
+    d.spaces[3].lowest = 0x100;
+    check_description_refused(&d, 16, 48, 71, 6, "then B6");
+    check_description_refused(&d, 16, 48, 1, 6, "B6 of one byte");
+    check_description_refused(&d, 16, 48, 0, 6, "B6 of none");
+}
+
+static void test_bad_states(void)
+{
+    struct board b;
+
+    board_demonstration(&b);
+    b.node.reception.places[7] = (struct bujorelm_place){.held = true, .len = 73, .source = 1};
+    check_refused(&b, BUJORELM_HOUSE_B7, false, "73 bytes");
+    CHECK(bujorelm_node_check(&b.node) == BUJORELM_HOUSE_B7);
+    b.node.reception.places[7] = (struct bujorelm_place){.held = true, .len = 255, .source = 1};
+    check_refused(&b, BUJORELM_HOUSE_B7, false, "255 bytes");
+    b.node.reception.places[7] = (struct bujorelm_place){.held = true, .len = 0, .source = 4096};
+    check_refused(&b, BUJORELM_HOUSE_B7, false, "source 4,096");
+    b.node.reception.places[7] = (struct bujorelm_place){.held = true, .len = 72, .source = 4095};
+    CHECK(bujorelm_node_check(&b.node) == BUJORELM_HOUSE_NONE);
+    b.node.reception.places[0] = (struct bujorelm_place){.held = true, .len = 3, .source = 4095};
+    check_refused(&b, BUJORELM_HOUSE_B7, false, "one source twice");
+    /* A place that holds nothing is not looked at. */
+    b.node.reception.places[0] = (struct bujorelm_place){.held = false, .len = 200, .source = 0xFFFF};
+    CHECK(bujorelm_node_check(&b.node) == BUJORELM_HOUSE_NONE);
+    /* A whole datagram asks nothing of the state. */
+    b.node.reception.places[7].len = 80;
+    CHECK(bujorelm_node_handle_datagram(&b.node, (const uint8_t *)"\x20\xA8", 2, b.reply.bytes, b.reply.len).kind == BUJORELM_ACCEPTED);
+    board_free(&b);
+}
+
+/* ---- Joining ---- */
+
+static bool is_refusal(struct bujorelm_numbers answer, uint16_t code)
+{
+    return is_answer(answer, BUJORELM_TRANSPORT_REFUSAL, 0, 0, code, 0);
+}
+
+static bool is_joined(struct bujorelm_numbers answer)
+{
+    return is_answer(answer, BUJORELM_JOINED, 0, 0, 0, 0);
+}
+
+static void test_transport_refusals(void)
+{
+    struct board b;
+
+    board_demonstration(&b);
+    /* Strays: each gets its own refusal. */
+    CHECK(is_refusal(feed_hex(&b, MIDDLE, 0x123, "20"), 0x2040));
+    CHECK(is_refusal(feed_hex(&b, LAST, 0x123, "20"), 0x2040));
+    CHECK(is_refusal(feed_hex(&b, LAST, 0x123, ""), 0x2040));
+    CHECK(is_refusal(feed_hex(&b, MIDDLE, 0x123, ""), 0x2040));
+    CHECK(nothing_unfinished(&b.node));
+
+    /* A First over an unfinished one drops it, and so does a Single. The frames behind are strays. */
+    CHECK(is_joined(feed_hex(&b, FIRST, 0x123, "200100000000")));
+    CHECK(is_refusal(feed_hex(&b, FIRST, 0x123, "200100000000"), 0x2040));
+    CHECK(nothing_unfinished(&b.node));
+    CHECK(is_refusal(feed_hex(&b, LAST, 0x123, "55"), 0x2040));
+    CHECK(is_joined(feed_hex(&b, FIRST, 0x123, "")));
+    CHECK(!nothing_unfinished(&b.node));
+    CHECK(is_refusal(feed_hex(&b, SINGLE, 0x123, "20A8"), 0x2040));
+    CHECK(nothing_unfinished(&b.node));
+    CHECK(is_answer(feed_hex(&b, SINGLE, 0x123, "20A8"), BUJORELM_ACCEPTED, 0, 0, 0, 0));
+
+    /* An empty Middle drops; an empty Last does not. */
+    CHECK(is_joined(feed_hex(&b, FIRST, 0x123, "20A8")));
+    CHECK(is_refusal(feed_hex(&b, MIDDLE, 0x123, ""), 0x2040));
+    CHECK(is_refusal(feed_hex(&b, LAST, 0x123, ""), 0x2040));
+    CHECK(is_joined(feed_hex(&b, FIRST, 0x123, "20A8")));
+    CHECK(is_answer(feed_hex(&b, LAST, 0x123, ""), BUJORELM_ACCEPTED, 0, 0, 0, 0));
+    CHECK(is_joined(feed_hex(&b, FIRST, 0x123, "")));
+    CHECK(is_answer(feed_hex(&b, LAST, 0x123, ""), BUJORELM_REJECTED, 0, 0, 0x1080, 0));
+
+    /* 72 bytes may be joined and no more; an empty Middle is tested before the total. */
+    for (int middle = 0; middle < 3; middle++) {
+        CHECK(is_joined(feed_hex(&b, FIRST, 0x123, "2040000000000000")));
+        for (int i = 0; i < 8; i++) {
+            CHECK(is_joined(feed_hex(&b, MIDDLE, 0x123, "0000000000000000")));
+        }
+        switch (middle) {
+        case 0:
+            CHECK(is_refusal(feed_hex(&b, LAST, 0x123, "00"), 0x2000));
+            break;
+        case 1:
+            CHECK(is_refusal(feed_hex(&b, MIDDLE, 0x123, "00"), 0x2000));
+            break;
+        default:
+            CHECK(is_refusal(feed_hex(&b, MIDDLE, 0x123, ""), 0x2040));
+            break;
+        }
+        CHECK(nothing_unfinished(&b.node));
+    }
+
+    /* Eight sources, and a ninth; a Single needs no place; freed room is used again. */
+    for (uint32_t source = 1; source <= 8; source++) {
+        CHECK(is_joined(feed_hex(&b, FIRST, source, "20")));
+    }
+    CHECK(is_refusal(feed_hex(&b, FIRST, 9, "20"), 0x2020));
+    CHECK(is_refusal(feed_hex(&b, LAST, 9, "A8"), 0x2040));
+    CHECK(is_answer(feed_hex(&b, SINGLE, 9, "20A8"), BUJORELM_ACCEPTED, 0, 0, 0, 0));
+    CHECK(is_refusal(feed_hex(&b, FIRST, 5, "20"), 0x2040));
+    CHECK(is_joined(feed_hex(&b, FIRST, 9, "20")));
+    CHECK(is_refusal(feed_hex(&b, FIRST, 5, "20"), 0x2020));
+    for (uint32_t source = 9; source >= 1; source--) {
+        if (source != 5) {
+            CHECK(is_answer(feed_hex(&b, LAST, source, "A8"), BUJORELM_ACCEPTED, 0, 0, 0, 0));
+        }
+    }
+    CHECK(nothing_unfinished(&b.node));
+    CHECK(is_untouched(b.reply.bytes, 0, b.reply.len));
+    for (size_t i = 0; i < b.memory.len; i++) {
+        CHECK(b.memory.bytes[i] == 0);
+    }
+    board_free(&b);
+}
+
+/* Frames that are not for the board, and data of any length. */
+static void test_ignored(void)
+{
+    struct board b;
+    uint8_t data[80];
+
+    board_demonstration(&b);
+    memset(data, 0, sizeof data);
+    data[0] = 0x20;
+    data[1] = 0xA8;
+    CHECK(is_joined(feed_hex(&b, FIRST, 0x123, "2041")));
+    for (uint32_t top = 0; top < 0x100; top++) {
+        const struct bujorelm_reception before = b.node.reception;
+        const struct bujorelm_numbers answer = feed(&b, header_of(top, 0x22B, 0x456), data, 2);
+
+        switch (top) {
+        case SINGLE:
+            CHECK(is_answer(answer, BUJORELM_ACCEPTED, 0, 0, 0, 0));
+            break;
+        case FIRST:
+            CHECK(is_joined(answer));
+            break;
+        case MIDDLE:
+            CHECK(is_joined(answer));
+            break;
+        case LAST:
+            CHECK(is_answer(answer, BUJORELM_REJECTED, 0, 0, 0x1080, 0));
+            break;
+        default:
+            CHECK(is_answer(answer, BUJORELM_IGNORED, 0, 0, 0, 0));
+            CHECK(same_places(&before, &b.node.reception));
+            break;
+        }
+    }
+    /* Another destination; the board as source; a Received OK and a Rejected to the board. */
+    for (uint32_t top = SINGLE; top <= LAST; top++) {
+        CHECK(feed(&b, header_of(top, 0x22A, 0x456), data, 2).kind == BUJORELM_IGNORED);
+        CHECK(feed(&b, header_of(top, 0, 0x456), data, 2).kind == BUJORELM_IGNORED);
+        CHECK(feed(&b, header_of(top, 0x22B, 0x22B), data, 2).kind == BUJORELM_IGNORED);
+    }
+    CHECK(feed(&b, 0x19A28456u, (const uint8_t *)"\x02\x2B\x00", 3).kind == BUJORELM_IGNORED);
+    CHECK(feed(&b, 0x19A48456u, (const uint8_t *)"\x02\x2B\x10\x80", 4).kind == BUJORELM_IGNORED);
+
+    for (size_t len = 0; len <= sizeof data; len++) {
+        const struct bujorelm_numbers answer = feed(&b, header_of(SINGLE, 0x22B, 0x456), data, len);
+
+        if (len > 8) {
+            CHECK(is_answer(answer, BUJORELM_IGNORED, 0, 0, 0, 0));
+            CHECK(feed(&b, header_of(MIDDLE, 0x22B, 0x123), data, len).kind == BUJORELM_IGNORED);
+        } else if (len == 2) {
+            CHECK(is_answer(answer, BUJORELM_ACCEPTED, 0, 0, 0, 0));
+        } else {
+            CHECK(is_answer(answer, BUJORELM_REJECTED, 0, 0, 0x1080, 0));
+        }
+    }
+    /* None of it touched the datagram that was begun. */
+    CHECK(b.node.reception.places[0].held && b.node.reception.places[0].len == 2 && b.node.reception.places[0].source == 0x123);
+    CHECK(feed_hex(&b, LAST, 0x123, "0000000001").kind == BUJORELM_REPLIED);
+    board_free(&b);
+}
+
+/* ---- Cutting and transport replies ---- */
+
+static void test_cutting(void)
+{
+    for (size_t len = 0; len <= 80; len++) {
+        struct guarded datagram = guarded_new(len, false);
+        struct bujorelm_cut_frames cut;
+
+        for (size_t i = 0; i < len; i++) {
+            datagram.bytes[i] = (uint8_t)(i + 1);
+        }
+        cut = bujorelm_cut(datagram.bytes, len, 0x123, 0x22B);
+        CHECK(cut.refused == (len > 72));
+        CHECK(cut.count == (len > 72 ? 0 : len == 0 ? 1 : (len + 7) / 8));
+        for (size_t i = 0; i < BUJORELM_FRAMES_MAX; i++) {
+            const struct bujorelm_frame *const f = &cut.frames[i];
+            uint8_t expected[8] = {0};
+            size_t data = 0;
+            uint32_t header = 0;
+
+            if (i < cut.count) {
+                const uint32_t top = len <= 8 ? SINGLE : i == 0 ? FIRST : i + 1 == cut.count ? LAST : MIDDLE;
+
+                data = len - 8 * i < 8 ? len - 8 * i : 8;
+                memcpy(expected, datagram.bytes + 8 * i, data);
+                header = header_of(top, 0x123, 0x22B);
+            }
+            CHECK(f->header == header && f->len == data && memcmp(f->bytes, expected, 8) == 0);
+        }
+        guarded_free(&datagram);
+    }
+    /* B9: an alias over 4,095. Zero is none of its business. */
+    CHECK(!bujorelm_cut((const uint8_t *)"x", 1, 4095, 4095).refused);
+    CHECK(!bujorelm_cut((const uint8_t *)"x", 1, 0, 0).refused);
+    CHECK(bujorelm_cut((const uint8_t *)"x", 1, 4096, 1).refused);
+    CHECK(bujorelm_cut((const uint8_t *)"x", 1, 1, 4096).refused);
+    CHECK(bujorelm_cut((const uint8_t *)"x", 1, 0xFFFF, 0xFFFF).count == 0);
+}
+
+static void test_transport_replies(void)
+{
+    struct bujorelm_transport_reply r = bujorelm_received_ok(0x22B, 0xF23, 0x80);
+
+    CHECK(!r.refused && r.frame.header == 0x19A2822Bu && r.frame.len == 3);
+    CHECK(memcmp(r.frame.bytes, "\x0F\x23\x80\0\0\0\0", 8) == 0);
+    r = bujorelm_rejected(0x22B, 0xF23, 0x2040);
+    CHECK(!r.refused && r.frame.header == 0x19A4822Bu && r.frame.len == 4);
+    CHECK(memcmp(r.frame.bytes, "\x0F\x23\x20\x40\0\0\0", 8) == 0);
+    r = bujorelm_received_ok(4095, 4095, 0);
+    CHECK(!r.refused && r.frame.header == 0x19A28FFFu);
+    r = bujorelm_received_ok(4096, 1, 0);
+    CHECK(r.refused && r.frame.header == 0 && r.frame.len == 0);
+    r = bujorelm_rejected(1, 4096, 0x1080);
+    CHECK(r.refused && r.frame.header == 0 && r.frame.len == 0);
+}
+
+/* ---- GridConnect ---- */
+
+static void test_lines(void)
+{
+    static const char *const bad[] = {
+        "",
+        ";",
+        ":",
+        "?",
+        ":X1A22B123N",
+        ":X1A22B123N2;",
+        ":X1A22B123N20",
+        ":X1A22B123N20; ",
+        " :X1A22B123N20;",
+        ":X1A22B123N20;\r",
+        ":X1a22B123N20;",
+        ":X1A22B123N2a;",
+        ":x1A22B123N20;",
+        ":X1A22B123n20;",
+        ":S1A22B123N20;",
+        ":X1A22B12N20;",
+        ":X01A22B123N20;",
+        ":X1A22B123R20;",
+        ":X1A22B123N2G;",
+        ":X1A22B123N 20;",
+        ":X1A22B123N001122334455667788;",
+        ":X1A22B123N20;:X1A22B123N20;",
+        ":X1A22B12/N20;",
+        ":X1A22B12:N20;",
+        ":X1A22B12@N20;",
+    };
+    struct bujorelm_frame frame = {.header = 0x1234ABCDu, .len = 0, .bytes = {0x00, 0x9F, 0xA0, 0xFF, 0x10, 0x01, 0xEE, 0x7B}};
+    static const char digits[] = "009FA0FF1001EE7B";
+
+    for (size_t i = 0; i < sizeof bad / sizeof bad[0]; i++) {
+        const size_t len = strlen(bad[i]);
+        struct guarded line = guarded_new(len, false);
+        struct bujorelm_parsed p;
+
+        memcpy(line.bytes, bad[i], len);
+        p = bujorelm_parse_line(line.bytes, len);
+        CHECK_CASE(!p.good && p.frame.header == 0 && p.frame.len == 0, bad[i]);
+        guarded_free(&line);
+    }
+
+    for (uint8_t len = 0; len <= 8; len++) {
+        char expected[32];
+        const size_t printed = 13 + 2 * (size_t)len;
+        struct bujorelm_parsed p;
+
+        frame.len = len;
+        snprintf(expected, sizeof expected, ":X1234ABCDN%.*s;\n", 2 * len, digits);
+        /* It fits to the byte, with bytes before it left alone. */
+        for (size_t at = 0; at < 3; at++) {
+            struct guarded out = guarded_new(at + printed, false);
+
+            memset(out.bytes, UNTOUCHED, out.len);
+            CHECK_CASE(bujorelm_print_frame(frame, out.bytes, out.len, at) == at + printed, expected);
+            CHECK_CASE(is_untouched(out.bytes, 0, at) && memcmp(out.bytes + at, expected, printed) == 0, expected);
+            /* A byte short, it is not printed. */
+            memset(out.bytes, UNTOUCHED, out.len);
+            CHECK_CASE(bujorelm_print_frame(frame, out.bytes, out.len, at + 1) == at + 1, expected);
+            CHECK_CASE(bujorelm_print_frame(frame, out.bytes, out.len - 1, at) == at, expected);
+            CHECK_CASE(bujorelm_print_frame(frame, out.bytes, out.len, out.len) == out.len, expected);
+            CHECK_CASE(bujorelm_print_frame(frame, out.bytes, out.len, out.len + 1) == out.len + 1, expected);
+            CHECK_CASE(bujorelm_print_frame(frame, out.bytes, out.len, SIZE_MAX) == SIZE_MAX, expected);
+            CHECK_CASE(is_untouched(out.bytes, 0, out.len), expected);
+            guarded_free(&out);
+        }
+        /* And is read back, without its newline. */
+        p = bujorelm_parse_line((const uint8_t *)expected, printed - 1);
+        CHECK_CASE(p.good && p.frame.header == frame.header && p.frame.len == len, expected);
+        CHECK_CASE(memcmp(p.frame.bytes, frame.bytes, len) == 0, expected);
+        CHECK_CASE(!bujorelm_parse_line((const uint8_t *)expected, printed).good, expected);
+    }
+    /* Frames that have no line. */
+    for (unsigned len = 9; len <= 255; len++) {
+        uint8_t out[64];
+
+        memset(out, UNTOUCHED, sizeof out);
+        frame.len = (uint8_t)len;
+        CHECK(bujorelm_print_frame(frame, out, sizeof out, 5) == 5 && is_untouched(out, 0, sizeof out));
+    }
+    /* Every header of eight digits is read. */
+    CHECK(bujorelm_parse_line((const uint8_t *)":XFFFFFFFFN;", 12).frame.header == 0xFFFFFFFFu);
+}
+
+/* ---- The inline functions ---- */
+
+struct frame_sink {
+    struct bujorelm_frame frames[16];
+    size_t count;
+    size_t room;
+};
+
+static bool keep_frame(void *context, const struct bujorelm_frame *frame)
+{
+    struct frame_sink *const sink = context;
+
+    if (sink->count == sink->room) {
+        return false;
+    }
+    sink->frames[sink->count++] = *frame;
+    return true;
+}
+
+static void test_inline_functions(void)
+{
+    static const uint8_t read_40[] = {0x20, 0x42, 0, 0, 0, 0, 0x30};
+    struct board b;
+    struct frame_sink sink = {.count = 0, .room = 16};
+    struct bujorelm_numbers answer;
+
+    board_demonstration(&b);
+    CHECK(bujorelm_source_of(0x1A22B123u) == 0x123 && bujorelm_source_of(0xFFFFFFFFu) == 0xFFF);
+
+    /* A reply of 54 bytes: the transport reply, and a First, five Middles and a Last. */
+    CHECK(bujorelm_node_receive(&b.node, header_of(SINGLE, 0x22B, 0x123), read_40, sizeof read_40, keep_frame, &sink, &answer));
+    CHECK(is_answer(answer, BUJORELM_REPLIED, 0, 0x80, 0, 54));
+    CHECK(sink.count == 8 && sink.frames[0].header == 0x19A2822Bu);
+    for (size_t i = 1; i < sink.count; i++) {
+        const uint32_t top = i == 1 ? FIRST : i + 1 == sink.count ? LAST : MIDDLE;
+
+        CHECK(sink.frames[i].header == header_of(top, 0x123, 0x22B) && sink.frames[i].len == (i == 7 ? 6 : 8));
+    }
+
+    /* A sender with too little room is not offered the rest; the answer may be left out. */
+    for (size_t room = 0; room < 8; room++) {
+        sink.count = 0;
+        sink.room = room;
+        CHECK(!bujorelm_node_receive(&b.node, header_of(SINGLE, 0x22B, 0x123), read_40, sizeof read_40, keep_frame, &sink, NULL));
+        CHECK(sink.count == room);
+    }
+    /* A Rejected of either sort; and what is not answered. */
+    sink.count = 0;
+    sink.room = 16;
+    CHECK(bujorelm_node_receive(&b.node, header_of(LAST, 0x22B, 0x123), NULL, 0, keep_frame, &sink, NULL));
+    CHECK(sink.count == 1 && sink.frames[0].header == 0x19A4822Bu && memcmp(sink.frames[0].bytes, "\x01\x23\x20\x40", 4) == 0);
+    CHECK(bujorelm_node_receive(&b.node, header_of(SINGLE, 0x22B, 0x123), NULL, 0, keep_frame, &sink, NULL));
+    CHECK(sink.count == 2 && memcmp(sink.frames[1].bytes, "\x01\x23\x10\x80", 4) == 0);
+    CHECK(bujorelm_node_receive(&b.node, header_of(FIRST, 0x22B, 0x123), read_40, 7, keep_frame, &sink, &answer));
+    CHECK(sink.count == 2 && answer.kind == BUJORELM_JOINED);
+    CHECK(bujorelm_node_receive(&b.node, header_of(SINGLE, 0x22C, 0x123), read_40, 7, keep_frame, &sink, &answer));
+    CHECK(sink.count == 2 && answer.kind == BUJORELM_IGNORED);
+    b.node.description.alias = 0;
+    CHECK(bujorelm_node_receive(&b.node, header_of(SINGLE, 0x22B, 0x123), read_40, 7, keep_frame, &sink, &answer));
+    CHECK(sink.count == 2 && is_house(answer, BUJORELM_HOUSE_B1));
+    /* An alias that has no header. */
+    answer = (struct bujorelm_numbers){.kind = BUJORELM_ACCEPTED};
+    CHECK(!bujorelm_send_answer(0x22B, 4096, &answer, NULL, keep_frame, &sink));
+    CHECK(sink.count == 2);
+    board_free(&b);
+}
+
+/* ---- Pseudo-random calls ---- */
+
+/* A book of one source, as document 01 describes it: what that source's frames alone say is unfinished. */
+struct book {
+    bool held;
+    size_t len;
+    uint8_t bytes[72];
+};
+
+#define SOURCES 12u
+
+static const uint16_t aliases[SOURCES] = {0, 1, 2, 3, 0x22B, 0x123, 0x456, 0x7FF, 0x800, 0xABC, 0xFFE, 0xFFF};
+
+static struct bujorelm_description random_description(size_t *flash_len, size_t *memory_len)
+{
+    static const uint8_t numbers[] = {0xFD, 0xFE, 0xFF, 0x00, 0x10, 0x20, 0xFC, 0xFB};
+    struct bujorelm_description d;
+
+    memset(&d, 0, sizeof d);
+    *flash_len = 1 + random_below(200);
+    *memory_len = 1 + random_below(200);
+    d.alias = aliases[1 + random_below(SOURCES - 1)];
+    d.write_lengths = (uint8_t)random_number();
+    d.count = random_below(6);
+    for (size_t i = 0; i < d.count; i++) {
+        struct bujorelm_space *const s = &d.spaces[i];
+        size_t store;
+        uint32_t size;
+
+        s->number = numbers[random_below(24) == 0 ? 0 : i];
+        s->in_flash = random_below(3) == 0;
+        s->read_only = s->in_flash || s->number == 0xFF || random_below(4) == 0;
+        store = s->in_flash ? *flash_len : *memory_len;
+        s->offset = random_below((uint32_t)store);
+        size = 1 + random_below((uint32_t)(store - s->offset));
+        if (random_below(30) == 0) {
+            size = (uint32_t)(store - s->offset) + 1 - random_below(2);
+        }
+        switch (random_below(4)) {
+        case 0:
+            s->lowest = 0xFFFFFFFFu - size;
+            break;
+        case 1:
+            s->lowest = random_below(300);
+            break;
+        default:
+            s->lowest = 0;
+            break;
+        }
+        s->highest = s->lowest + size - 1;
+    }
+    return d;
+}
+
+/* A datagram that is often a command with a likely address, sometimes cut short or with a byte changed. */
+static size_t random_datagram(const struct bujorelm_description *d, uint8_t *bytes)
+{
+    static const uint8_t commands[] = {0x00, 0x01, 0x02, 0x03, 0x08, 0x09, 0x0A, 0x0B, 0x40, 0x41, 0x42,
+                                       0x43, 0x80, 0x84, 0x88, 0xA8, 0x44, 0x60, 0x50, 0xA9};
+    const uint8_t command = commands[random_below(sizeof commands)];
+    const struct bujorelm_space *const s = &d->spaces[random_below((uint32_t)d->count + 1) % BUJORELM_SPACES_MAX];
+    /* Inside, or up to two bytes outside. Each random number has a statement of its own, so that every compiler draws them in one order. */
+    const uint32_t inside = random_below(s->highest - s->lowest + 3);
+    const uint32_t below = random_below(2);
+    const uint32_t address = s->lowest + inside - below;
+    uint32_t changed;
+    size_t len = 2;
+
+    random_bytes(bytes, 72);
+    bytes[0] = 0x20;
+    bytes[1] = command;
+    if (command < 0x44) {
+        bytes[2] = (uint8_t)(address >> 24);
+        bytes[3] = (uint8_t)(address >> 16);
+        bytes[4] = (uint8_t)(address >> 8);
+        bytes[5] = (uint8_t)address;
+        len = 6;
+        if ((command & 3) == 0) {
+            bytes[6] = s->number;
+            len = 7;
+        }
+        len += command >= 0x40 ? 1 : command >= 8 ? 2 * random_below(33) : random_below(65);
+    } else if (command == 0x84) {
+        bytes[2] = s->number;
+        len = 3;
+    } else if (command == 0x88) {
+        if (random_below(2) == 0) {
+            memset(bytes + 2, 0, 6);
+        }
+        len = 8;
+    }
+    switch (random_below(12)) {
+    case 0:
+        len = random_below(73);
+        break;
+    case 1:
+        changed = random_below(8);
+        bytes[changed] = (uint8_t)random_number();
+        break;
+    default:
+        break;
+    }
+    return len > 72 ? 72 : len;
+}
+
+/* A random frame to the board from one of the sources: often the next of a datagram that this source is sending. */
+struct sender {
+    uint8_t bytes[80];
+    size_t len;
+    size_t sent;
+};
+
+static size_t random_frame(const struct bujorelm_description *d, struct sender *sender, uint32_t source, uint32_t *header, uint8_t *data)
+{
+    size_t len;
+    size_t left;
+    bool begins;
+
+    if (sender->sent >= sender->len) {
+        sender->len = random_datagram(d, sender->bytes);
+        sender->sent = 0;
+        if (random_below(16) == 0) {
+            /* Too long to be joined. */
+            sender->len = 73 + random_below(8);
+        }
+    }
+    left = sender->len - sender->sent;
+    begins = sender->sent == 0;
+    len = left < 8 ? left : 8;
+    if (random_below(8) == 0) {
+        len = random_below((uint32_t)len + 1);
+    }
+    memcpy(data, sender->bytes + sender->sent, len);
+    *header = header_of(begins ? (len == left ? SINGLE : FIRST) : (len == left ? LAST : MIDDLE), d->alias, source);
+    sender->sent = len == left ? sender->len : sender->sent + len;
+    switch (random_below(40)) {
+    case 0: /* a lost frame */
+    case 1:
+        *header = header_of(SINGLE + random_below(4), d->alias, source);
+        break;
+    case 2:
+        *header = random_below(4) + SINGLE;
+        *header = header_of(*header, aliases[random_below(SOURCES)], source);
+        break;
+    case 3:
+        *header = random_number();
+        break;
+    case 4:
+        len = random_below(20);
+        random_bytes(data, len);
+        break;
+    case 5:
+        *header |= 0x20000000u << random_below(3);
+        break;
+    default:
+        break;
+    }
+    return len;
+}
+
+struct expected {
+    uint8_t kind;
+    uint16_t code;
+    bool finished;
+    size_t len;
+    uint8_t bytes[80];
+};
+
+/* What the books say of a frame. `others` is how many of the other sources have a datagram unfinished. */
+static struct expected book_step(struct book *book, size_t others, uint16_t alias, uint32_t header, const uint8_t *data, size_t len)
+{
+    struct expected e = {.kind = BUJORELM_IGNORED};
+    const uint32_t top = header >> 24;
+
+    if (len > 8 || top < SINGLE || top > LAST || (header >> 12 & 0xFFF) != alias || (header & 0xFFF) == alias) {
+        return e;
+    }
+    e.kind = BUJORELM_TRANSPORT_REFUSAL;
+    e.code = 0x2040;
+    if (top == SINGLE || top == FIRST) {
+        if (book->held) {
+            book->held = false;
+        } else if (top == SINGLE) {
+            e.finished = true;
+            e.len = len;
+            memcpy(e.bytes, data, len);
+        } else if (others >= 8) {
+            e.code = 0x2020;
+        } else {
+            e.kind = BUJORELM_JOINED;
+            book->held = true;
+            book->len = len;
+            memcpy(book->bytes, data, len);
+        }
+    } else if (book->held && !(top == MIDDLE && len == 0)) {
+        if (book->len + len > 72) {
+            e.code = 0x2000;
+            book->held = false;
+        } else {
+            memcpy(book->bytes + book->len, data, len);
+            book->len += len;
+            e.kind = BUJORELM_JOINED;
+            if (top == LAST) {
+                e.finished = true;
+                e.len = book->len;
+                memcpy(e.bytes, book->bytes, book->len);
+                book->held = false;
+            }
+        }
+    } else {
+        book->held = false;
+    }
+    return e;
+}
+
+/* What the state keeps for a source is what its book holds. */
+static bool state_has(const struct bujorelm_node *node, uint16_t source, const struct book *book)
+{
+    size_t found = 0;
+
+    for (size_t i = 0; i < BUJORELM_PLACES; i++) {
+        const struct bujorelm_place *const p = &node->reception.places[i];
+
+        if (p->held && p->source == source) {
+            found++;
+            if (!book->held || p->len != book->len || memcmp(node->pool + 72 * i, book->bytes, book->len) != 0) {
+                return false;
+            }
+        }
+    }
+    return found == (book->held ? 1 : 0);
+}
+
+/* How often each answer came, so that random frames that stopped short of one would show. */
+static unsigned long kinds_seen[BUJORELM_REPLIED + 1];
+static unsigned long codes_seen[9];
+static const uint16_t codes[9] = {0x1041, 0x1042, 0x1080, 0x1081, 0x1082, 0x1083, 0x2000, 0x2020, 0x2040};
+
+static void see(struct bujorelm_numbers answer, const uint8_t *reply)
+{
+    uint16_t code = answer.code;
+
+    if (answer.kind > BUJORELM_REPLIED) {
+        return;
+    }
+    kinds_seen[answer.kind]++;
+    /* The codes of failure replies are their last two bytes. */
+    if (answer.kind == BUJORELM_REPLIED && (reply[1] & 0xBC) == 0x18) {
+        code = (uint16_t)(reply[answer.reply_len - 2] << 8 | reply[answer.reply_len - 1]);
+    }
+    for (size_t i = 0; i < 9; i++) {
+        if (codes[i] == code) {
+            codes_seen[i]++;
+        }
+    }
+}
+
+static void random_session(unsigned long frames)
+{
+    size_t flash_len;
+    size_t memory_len;
+    const struct bujorelm_description d = random_description(&flash_len, &memory_len);
+    const size_t reply_len = random_below(20) == 0 ? random_below(72) : 72 + random_below(3);
+    struct board b;
+    struct book books[SOURCES];
+    struct sender senders[SOURCES];
+    struct guarded payload;
+    uint8_t flash[256];
+    uint8_t memory[256];
+    uint8_t lock[6];
+    uint8_t house;
+
+    memset(books, 0, sizeof books);
+    memset(senders, 0, sizeof senders);
+    board_new(&b, &d, flash_len, memory_len, reply_len);
+    payload = guarded_new(8, false);
+    random_bytes(b.flash.bytes, flash_len);
+    random_bytes(b.memory.bytes, memory_len);
+    random_bytes(b.node.pool, sizeof b.node.pool);
+    memcpy(flash, b.flash.bytes, flash_len);
+    memcpy(memory, b.memory.bytes, memory_len);
+    memcpy(lock, b.node.lock.bytes, 6);
+    house = bujorelm_node_check(&b.node);
+    if (house == 0 && reply_len < 72) {
+        house = BUJORELM_HOUSE_B6;
+    }
+
+    for (unsigned long n = 0; n < frames; n++) {
+        size_t who = random_below(SOURCES);
+        uint8_t data[24];
+        uint32_t header;
+        const size_t len = random_frame(&d, &senders[who], aliases[who], &header, data);
+        const struct bujorelm_node before = b.node;
+        struct bujorelm_numbers answer;
+        struct expected e;
+        size_t others = 0;
+        size_t written = 0;
+
+        memset(b.reply.bytes, UNTOUCHED, reply_len);
+        if (len <= 8) {
+            memcpy(payload.bytes + 8 - len, data, len);
+            answer = bujorelm_node_handle_frame(&b.node, header, payload.bytes + 8 - len, len, b.reply.bytes, reply_len);
+        } else {
+            answer = bujorelm_node_handle_frame(&b.node, header, data, len, b.reply.bytes, reply_len);
+        }
+
+        see(answer, b.reply.bytes);
+
+        CHECK(memcmp(b.flash.bytes, flash, flash_len) == 0);
+        if (house != 0) {
+            CHECK(is_house(answer, house));
+            CHECK(same_places(&b.node.reception, &before.reception));
+            CHECK(memcmp(b.node.pool, before.pool, sizeof before.pool) == 0);
+        } else {
+            /* A random header may name a source that is none of ours: then no book is its own. */
+            struct book stranger = {.held = false};
+            struct book *book = &stranger;
+
+            for (size_t i = 0; i < SOURCES; i++) {
+                if (aliases[i] == (header & 0xFFF)) {
+                    book = &books[i];
+                } else if (books[i].held) {
+                    others++;
+                }
+            }
+            e = book_step(book, others, d.alias, header, data, len);
+            CHECK(!stranger.held);
+            if (!e.finished) {
+                CHECK(is_answer(answer, e.kind, 0, 0, e.kind == BUJORELM_TRANSPORT_REFUSAL ? e.code : 0, 0));
+            } else {
+                /* The datagram that the book finishes, handed over whole, gives the same answer, reply, memory and lock. */
+                struct bujorelm_lock held;
+                uint8_t reply[80];
+                struct bujorelm_datagram_return whole;
+
+                memcpy(held.bytes, lock, 6);
+                memset(reply, UNTOUCHED, sizeof reply);
+                whole = bujorelm_handle_datagram(d, flash, flash_len, memory, memory_len, held, e.bytes, e.len, reply, reply_len);
+                CHECK(is_answer(answer, whole.answer.kind, whole.answer.house, whole.answer.flags, whole.answer.code,
+                                whole.answer.reply_len));
+                CHECK(answer.kind >= BUJORELM_REJECTED && answer.kind <= BUJORELM_REPLIED);
+                written = answer.reply_len;
+                CHECK(written <= 72 && memcmp(reply, b.reply.bytes, reply_len) == 0);
+                CHECK((answer.kind == BUJORELM_REPLIED) == (written != 0));
+                /* Only an accepted write changes memory, and only a lock command changes the lock. */
+                if (answer.kind != BUJORELM_ACCEPTED || e.bytes[1] > 0x0B) {
+                    CHECK(memcmp(memory, before.memory, memory_len) == 0);
+                    CHECK(memcmp(b.memory.bytes, memory, memory_len) == 0);
+                }
+                if (answer.kind != BUJORELM_REPLIED || e.bytes[1] != 0x88) {
+                    CHECK(memcmp(whole.lock.bytes, lock, 6) == 0);
+                }
+                memcpy(lock, whole.lock.bytes, 6);
+            }
+            for (size_t i = 0; i < SOURCES; i++) {
+                CHECK(state_has(&b.node, aliases[i], &books[i]));
+            }
+            if (e.kind == BUJORELM_IGNORED) {
+                CHECK(same_places(&b.node.reception, &before.reception));
+                CHECK(memcmp(b.node.pool, before.pool, sizeof before.pool) == 0);
+            }
+        }
+        CHECK(memcmp(b.memory.bytes, memory, memory_len) == 0);
+        CHECK(memcmp(b.node.lock.bytes, lock, 6) == 0);
+        CHECK(is_untouched(b.reply.bytes, written, reply_len));
+    }
+    guarded_free(&payload);
+    board_free(&b);
+}
+
+int main(int argc, char **argv)
+{
+    const unsigned long frames = argc > 1 ? strtoul(argv[1], NULL, 10) : 100000;
+
+    test_layout();
+    test_session();
+    test_datagrams();
+    test_longest();
+    test_lock();
+    test_left_out();
+    test_house_numbers();
+    test_bad_states();
+    test_transport_refusals();
+    test_ignored();
+    test_cutting();
+    test_transport_replies();
+    test_lines();
+    test_inline_functions();
+    for (unsigned long done = 0; done < frames; done += 500) {
+        random_session(500);
+    }
+    if (frames >= 20000) {
+        for (size_t i = 0; i <= BUJORELM_REPLIED; i++) {
+            CHECK(kinds_seen[i] >= 100);
+        }
+        for (size_t i = 0; i < 9; i++) {
+            CHECK(codes_seen[i] >= 10);
+        }
+    }
+    return check_result("library");
+}
