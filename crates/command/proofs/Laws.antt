@@ -1,18 +1,18 @@
 -- Laws of the fields of a datagram and of its decoding.
 -- Assumes nothing.
-use Prim.Native.Nat.{ℕ, suc, _+_, _-_, _%_, _/_, _≤_, _<_}
-use mathlib.Core.Path.{_≡_, refl, sym, ap, _∙_}
-use mathlib.Core.Bool.{Bool, true, false, cond, not, _&&_, _||_}
+use Prim.Native.Nat.{ℕ, _%_, _/_, _≤_, _<_}
+use mathlib.Core.Path.{_≡_, refl, _∙_}
+use mathlib.Core.Bool.{Bool, true, false, not, _&&_, _||_}
 use mathlib.Core.List.{List, [], _∷_}
 use native.Mathlib.Omega.{arith}
 use lib.Dec.{leb, ltb, eqb}
-use lib.ListN.{length, getD, drop, length-drop, drop-of-length-le}
+use lib.ListN.{length, getD, drop, length-drop}
 use borrow.Author.Tests.{eq-eqb, ne-eqb, lt-ltb, le-ltb, le-leb, lt-leb, leb-true, eqb-true}
-use Rattle.buffer.proofs.Choice.{cond-true, cond-false, cond-elim, cond-map, clash, and-left, and-right}
-use Rattle.command.specs.Commands.{Request, read, write, writeMasked, options, information, reserve, updateComplete, pairsOf, within, kindOf, formOf, formIn, lowForm, headLength, spaceOf, addressOf, restOf}
+use Rattle.buffer.proofs.Choice.{cond-elim, cond-map, and-left, and-right}
+use Rattle.command.specs.Commands.{Request, read, write, writeMasked, options, information, reserve, updateComplete, pairsOf, within, kindOf, formIn, headLength, spaceOf, addressOf, restOf}
 use Rattle.command.specs.Decoding.{Reading, rejected, request, orWrong, countOf, decodeRead, decodeWrite, decodeMasked, decodeKind, decode, requestOf, readingOf, fixed}
 use Rattle.command.specs.declared.Form.{Form}
-use Rattle.command.specs.declared.Form.the-variants.{NoSpace, Byte6, Fd, Fe, Ff}
+use Rattle.command.specs.declared.Form.the-variants.{NoSpace}
 use Rattle.command.specs.declared.Kind.{Kind}
 use Rattle.command.specs.declared.Kind.the-variants.{Read, Write, WriteMasked, Options, Information, Lock, UpdateComplete, Unknown}
 use Rattle.command.specs.declared.Command.{Command}
@@ -47,66 +47,36 @@ module _ (c : ℕ) where
   is-unknown r w m a b d e =
       rw (no 0x40 0x43 c r, no 0x00 0x03 c (λ p. w), no 0x08 0x0B c m, ne-eqb c 0x80 a, ne-eqb c 0x84 b, ne-eqb c 0x88 d, ne-eqb c 0xA8 e)
 
--- On which side of 0x80 the commands of a kind are.
-abbrev pub Side : ℕ → Kind → Type 0
-Side c Read = c < 0x80
-Side c Write = c < 0x80
-Side c WriteMasked = c < 0x80
-Side c Options = 0x80 ≤ c
-Side c Information = 0x80 ≤ c
-Side c Lock = 0x80 ≤ c
-Side c UpdateComplete = 0x80 ≤ c
-Side c Unknown = Unit {0}
+-- The command of a lock is one of those from 0x80 on, which name no space.
+abbrev pub Locks : ℕ → Kind → Type 0
+Locks c Read = Unit {0}
+Locks c Write = Unit {0}
+Locks c WriteMasked = Unit {0}
+Locks c Options = Unit {0}
+Locks c Information = Unit {0}
+Locks c Lock = 0x80 ≤ c
+Locks c UpdateComplete = Unit {0}
+Locks c Unknown = Unit {0}
 
-below : (low high c : ℕ) → high < 0x80 → within low high c ≡ true → c < 0x80
-below low high c h w = omega (arith, leb-true c high (and-right (leb low c) (leb c high) w))
-
-above : (n c : ℕ) → 0x80 ≤ n → eqb c n ≡ true → 0x80 ≤ c
-above n c h w = omega (arith, eqb-true c n w)
-
-pub side : (c : ℕ) → Side c (kindOf c)
+locks : (c : ℕ) → Locks c (kindOf c)
 unfolding kindOf
-side c =
-    cond-elim (Side c) (within 0x40 0x43 c) (below 0x40 0x43 c (omega arith))
-    (λ _. cond-elim (Side c) (within 0x00 0x03 c) (below 0x00 0x03 c (omega arith))
-    (λ _. cond-elim (Side c) (within 0x08 0x0B c) (below 0x08 0x0B c (omega arith))
-    (λ _. cond-elim (Side c) (eqb c 0x80) (above 0x80 c (omega arith))
-    (λ _. cond-elim (Side c) (eqb c 0x84) (above 0x84 c (omega arith))
-    (λ _. cond-elim (Side c) (eqb c 0x88) (above 0x88 c (omega arith))
-    (λ _. cond-elim (Side c) (eqb c 0xA8) (above 0xA8 c (omega arith)) (λ _. tt)))))))
+locks c =
+    cond-elim (Locks c) (within 0x40 0x43 c) (λ _. tt)
+    (λ _. cond-elim (Locks c) (within 0x00 0x03 c) (λ _. tt)
+    (λ _. cond-elim (Locks c) (within 0x08 0x0B c) (λ _. tt)
+    (λ _. cond-elim (Locks c) (eqb c 0x80) (λ _. tt)
+    (λ _. cond-elim (Locks c) (eqb c 0x84) (λ _. tt)
+    (λ _. cond-elim (Locks c) (eqb c 0x88) (λ e. omega (arith, eqb-true c 0x88 e))
+    (λ _. cond-elim (Locks c) (eqb c 0xA8) (λ _. tt) (λ _. tt)))))))
 
-pub side-of : (k : Kind) (c : ℕ) → k ≡ kindOf c → Side c k
-side-of k c e = rw e (side c)
+pub locks-of : (k : Kind) (c : ℕ) → k ≡ kindOf c → Locks c k
+locks-of k c e = rw e (locks c)
 
 -- ---- the remaining bytes
-
-head-least : (f : Form) → 2 ≤ headLength f
-head-least NoSpace = omega arith
-head-least Byte6 = omega arith
-head-least Fd = omega arith
-head-least Fe = omega arith
-head-least Ff = omega arith
-
-low-head : (low : ℕ) → 6 ≤ headLength (lowForm low)
-low-head low =
-    cond-elim (λ f. 6 ≤ headLength f) (eqb low 0) (λ _. omega arith)
-    (λ _. cond-elim (λ f. 6 ≤ headLength f) (eqb low 1) (λ _. omega arith)
-    (λ _. cond-elim (λ f. 6 ≤ headLength f) (eqb low 2) (λ _. omega arith) (λ _. omega arith)))
-
-pub rest-short : (d : List ℕ) → length d < 2 → length d ≤ headLength (formIn d)
-rest-short d h = omega (arith, head-least (formIn d))
 
 pub rest-is : (d : List ℕ) → restOf d ≡ drop (headLength (formIn d)) d
 unfolding restOf
 rest-is d = refl
-
--- a byte that remains, behind a read, a write or a masked write
-pub rest-some : (d : List ℕ) → getD d 1 0 < 0x80 → 1 ≤ length (restOf d) → 7 ≤ length d
-unfolding restOf
-rest-some d h k =
-    let e : formIn d ≡ lowForm (getD d 1 0 % 4) = rw (lt-leb 0x80 (getD d 1 0) h) in
-    let l : 6 ≤ headLength (formIn d) = rw e (low-head (getD d 1 0 % 4)) in
-    omega (arith, length-drop (headLength (formIn d)) d)
 
 pub rest-lock : (d : List ℕ) → 0x80 ≤ getD d 1 0 → restOf d ≡ drop 2 d
 unfolding restOf

@@ -3,9 +3,9 @@ use crate::Command;
 use crate::Decoded;
 use crate::Form;
 use crate::Kind;
+use crate::view;
 ghost use mathlib.Core.Path.{_≡_};
-ghost use Prim.Native.Nat.{_≤_, _<_};
-ghost use lib.ListN.{length, getD};
+ghost use lib.ListN.{getD, drop};
 ghost use Rattle.command.specs.Commands.{kindOf, formOf, headLength, addressOf, spaceOf};
 ghost use Rattle.command.specs.Decoding.{readingOf, decodeKind, decodeRead, decodeWrite, decodeMasked, fixed};
 
@@ -52,7 +52,7 @@ pub fn form_of(command: u8) -> Form
 
 // How many bytes stand before the remaining ones.
 pub fn head_length(form: Form) -> usize
-    ensures { λ r. ⌜ (r ≡ headLength form) × (2 ≤ r) × (r ≤ 7) ⌝ }
+    ensures { λ r. ⌜ r ≡ headLength form ⌝ }
 {
     match form {
         Form::NoSpace => 2,
@@ -63,26 +63,59 @@ pub fn head_length(form: Form) -> usize
     }
 }
 
-pub fn space_of(datagram: &[u8], form: Form) -> u8
-    requires { ⌜ 7 ≤ length (now datagram) ⌝ }
-    ensures { λ r. ⌜ r ≡ spaceOf form (now (datagram .entry)) ⌝ }
+// A byte of a datagram, or 0 where it has none.
+pub fn byte_in(datagram: &[u8], at: usize) -> u8
+    ensures { λ r. ⌜ r ≡ getD (now (datagram .entry)) at 0 ⌝ }
 {
-    match form {
+    if at < datagram.len() { datagram[at] } else { 0 }
+}
+
+pub fn command_in(datagram: &[u8]) -> u8
+    ensures { λ r. ⌜ r ≡ getD (now (datagram .entry)) 1 0 ⌝ }
+{
+    byte_in(datagram, 1)
+}
+
+pub fn address_in(datagram: &[u8]) -> u32
+    ensures { λ r. ⌜ r ≡ addressOf (now (datagram .entry)) ⌝ }
+{
+    buffer::number(
+        byte_in(datagram, 2),
+        byte_in(datagram, 3),
+        byte_in(datagram, 4),
+        byte_in(datagram, 5),
+    )
+}
+
+pub fn space_in(datagram: &[u8], command: u8) -> u8
+    ensures { λ r. ⌜ r ≡ spaceOf (formOf command) (now (datagram .entry)) ⌝ }
+{
+    match form_of(command) {
         Form::NoSpace => 0,
-        Form::Byte6 => datagram[6],
+        Form::Byte6 => byte_in(datagram, 6),
         Form::Fd => 0xFD,
         Form::Fe => 0xFE,
         Form::Ff => 0xFF,
     }
 }
 
-pub fn target_of(datagram: &[u8]) -> Target
-    requires { ⌜ 7 ≤ length (now datagram) ⌝ }
-    ensures { λ r. ⌜ (r .form ≡ formOf (getD (now (datagram .entry)) 1 0)) × (r .space ≡ spaceOf (formOf (getD (now (datagram .entry)) 1 0)) (now (datagram .entry))) × (r .address ≡ addressOf (now (datagram .entry))) ⌝ }
+// The bytes behind a datagram's command, address and space byte.
+pub fn remaining_in(datagram: &[u8], command: u8) -> &[u8]
+    ensures { λ r. ⌜ now r ≡ drop (headLength (formOf command)) (now (datagram .entry)) ⌝ }
 {
-    let form = form_of(datagram[1]);
-    let space = space_of(datagram, form);
-    let address = buffer::number(datagram[2], datagram[3], datagram[4], datagram[5]);
+    let head = head_length(form_of(command));
+    let end = datagram.len();
+    if end < head {
+        return &datagram[end..];
+    }
+    &datagram[head..]
+}
+
+// The form is told by the command.
+pub fn target_with(command: u8, space: u8, address: u32) -> Target
+    ensures { λ r. ⌜ (r .form ≡ formOf command) × (r .space ≡ space) × (r .address ≡ address) ⌝ }
+{
+    let form = form_of(command);
     Target {
         form: form,
         space: space,
@@ -90,9 +123,15 @@ pub fn target_of(datagram: &[u8]) -> Target
     }
 }
 
+pub fn target_of(datagram: &[u8]) -> Target
+    ensures { λ r. ⌜ (r .form ≡ formOf (getD (now (datagram .entry)) 1 0)) × (r .space ≡ spaceOf (formOf (getD (now (datagram .entry)) 1 0)) (now (datagram .entry))) × (r .address ≡ addressOf (now (datagram .entry))) ⌝ }
+{
+    let view = view::view_of(datagram);
+    target_with(view.command, view::space(view), view.address)
+}
+
 // A read: exactly one count byte, 1 to 64 without its top bit.
 pub fn decode_read(datagram: &[u8]) -> Decoded
-    requires { ⌜ getD (now datagram) 1 0 < 0x80 ⌝ }
     ensures { λ r. ⌜ readingOf r (now (datagram .entry)) ≡ decodeRead (now (datagram .entry)) ⌝ }
 {
     let rest = crate::rest(datagram);
@@ -118,7 +157,6 @@ pub fn decode_read(datagram: &[u8]) -> Decoded
 
 // A write: 1 to 64 bytes.
 pub fn decode_write(datagram: &[u8]) -> Decoded
-    requires { ⌜ getD (now datagram) 1 0 < 0x80 ⌝ }
     ensures { λ r. ⌜ readingOf r (now (datagram .entry)) ≡ decodeWrite (now (datagram .entry)) ⌝ }
 {
     let rest = crate::rest(datagram);
@@ -139,7 +177,6 @@ pub fn decode_write(datagram: &[u8]) -> Decoded
 
 // A masked write: 1 to 32 pairs.
 pub fn decode_masked(datagram: &[u8]) -> Decoded
-    requires { ⌜ getD (now datagram) 1 0 < 0x80 ⌝ }
     ensures { λ r. ⌜ readingOf r (now (datagram .entry)) ≡ decodeMasked (now (datagram .entry)) ⌝ }
 {
     let rest = crate::rest(datagram);
@@ -173,7 +210,7 @@ pub fn of_length(datagram: &[u8], length: usize, command: Command) -> Decoded
 
 // A datagram of at least two bytes, by the kind of its command.
 pub fn decode_kind(datagram: &[u8], kind: Kind) -> Decoded
-    requires { ⌜ (2 ≤ length (now datagram)) × (kind ≡ kindOf (getD (now datagram) 1 0)) ⌝ }
+    requires { ⌜ kind ≡ kindOf (getD (now datagram) 1 0) ⌝ }
     ensures { λ r. ⌜ readingOf r (now (datagram .entry)) ≡ decodeKind kind (now (datagram .entry)) ⌝ }
 {
     match kind {

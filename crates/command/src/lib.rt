@@ -1,5 +1,6 @@
 // A datagram read as a request, apart from any board.
 mod fields;
+mod view;
 
 ghost use mathlib.Core.Path.{_≡_};
 ghost use Rattle.command.specs.Commands.{restOf};
@@ -47,15 +48,7 @@ pub enum Decoded {
 pub fn rest(datagram: &[u8]) -> &[u8]
     ensures { λ r. ⌜ now r ≡ restOf (now (datagram .entry)) ⌝ }
 {
-    let end = datagram.len();
-    if end < 2 {
-        return &datagram[end..];
-    }
-    let head = fields::head_length(fields::form_of(datagram[1]));
-    if end < head {
-        return &datagram[end..];
-    }
-    &datagram[head..]
+    view::remaining(view::view_of(datagram))
 }
 
 // Reads a datagram that was handed over whole.
@@ -74,6 +67,6 @@ pub fn decode(datagram: &[u8]) -> Decoded
     if datagram.len() == 1 {
         return Decoded::Rejected(0x1080);
     }
-    let kind = fields::kind_of(datagram[1]);
+    let kind = fields::kind_of(fields::command_in(datagram));
     fields::decode_kind(datagram, kind)
 }

@@ -1,27 +1,12 @@
 -- `decode_kind` meets its contract: each kind by its own function.
 -- Assumes nothing.
-use mathlib.Core.Path.{_≡_, refl, sym, ap, _∙_}
-use lib.ListN.{length, getD}
+use mathlib.Core.Path.{ap, _∙_}
+use lib.ListN.{getD}
 use Rattle.command.specs.Decoding.{decodeKind, readingOf}
-use Rattle.command.proofs.Laws.{Side, side-of, fixed-reads, rest-lock}
+use Rattle.command.proofs.Laws.{locks-of, fixed-reads, rest-lock}
 use borrow.Author.Needs.{needs}
 use Rattle.command.proofs.fields.decode_kind.Statement.{statement}
 use Rattle.command.proofs.fields.decode_kind.Tie as tie
-
-decode-read-requires : tie.Need-decode-read-requires
-decode-read-requires c κs =
-    let e = c .before .before .before in
-    rw (c .enum-told .given .1) at (side-of (e .args .kind) (getD (e .args .datagram .now) 1 0) (e .pre .1))
-
-decode-write-requires : tie.Need-decode-write-requires
-decode-write-requires c κs =
-    let e = c .before .before .before in
-    rw (c .enum-told2 .given .1) at (side-of (e .args .kind) (getD (e .args .datagram .now) 1 0) (e .pre .1))
-
-decode-masked-requires : tie.Need-decode-masked-requires
-decode-masked-requires c κs =
-    let e = c .before .before .before in
-    rw (c .enum-told3 .given .1) at (side-of (e .args .kind) (getD (e .args .datagram .now) 1 0) (e .pre .1))
 
 returns : tie.Need-returns
 unfolding decodeKind
@@ -52,7 +37,7 @@ unfolding decodeKind
 returns-6 c =
     let e = c .before .before .before .before in
     let d = e .args .datagram .now in
-    let h = rw (c .before .enum-told6 .given .1) at (side-of (e .args .kind) (getD d 1 0) (e .pre .1)) in
+    let h = rw (c .before .enum-told6 .given .1) at (locks-of (e .args .kind) (getD d 1 0) (e .pre)) in
     rw (c .before .enum-told6 .given .1, ← rest-lock d h) (ap (λ r. readingOf r d) (c .of-length2 .ensures) ∙ fixed-reads 8 d _)
 
 returns-7 : tie.Need-returns-7
@@ -70,11 +55,11 @@ decode-kind-spec =
     tie.close
     (tie.spec
     (λ c. search needs)
-    decode-read-requires
+    (λ c κs. search needs)
     (λ c. search needs)
-    decode-write-requires
+    (λ c κs. search needs)
     (λ c. search needs)
-    decode-masked-requires
+    (λ c κs. search needs)
     (λ c. search needs)
     (λ c κs. search needs)
     (λ c. search needs)

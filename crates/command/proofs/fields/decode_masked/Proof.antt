@@ -1,9 +1,6 @@
 -- `decode_masked` meets its contract: each answer by the law of its case.
 -- Assumes nothing.
-use mathlib.Core.Path.{_≡_, refl, sym, ap, _∙_}
-use native.Mathlib.Omega.{arith}
-use lib.ListN.{length, getD}
-use Rattle.command.proofs.Laws.{rest-some, masked-none, masked-many, masked-odd, masked-right}
+use Rattle.command.proofs.Laws.{masked-none, masked-many, masked-odd, masked-right}
 use borrow.Author.Needs.{needs}
 use Rattle.command.proofs.fields.decode_masked.Statement.{statement}
 use Rattle.command.proofs.fields.decode_masked.Tie as tie
@@ -17,11 +14,6 @@ returns-2 c = masked-many (c .before .before .before .before .args .datagram .no
 returns-3 : tie.Need-returns-3
 returns-3 c = masked-odd (c .before .before .before .before .before .args .datagram .now) (c .before .before .before .rest .ensures) (c .before .before .if1 .left) (c .before .if2 .left) (c .if3 .taken)
 
-target-of-requires : tie.Need-target-of-requires
-target-of-requires c κs =
-    let e = c .before .before .before .before .before in
-    rest-some (e .args .datagram .now) (e .pre) (omega (arith, ap length (c .before .before .before .rest .ensures), c .before .before .if1 .left))
-
 returns-4 : tie.Need-returns-4
 returns-4 c =
     let t = c .target-of .ensures in
@@ -29,4 +21,4 @@ returns-4 c =
 
 pub decode-masked-spec : {M : Type 1} → statement M
 decode-masked-spec =
-    tie.close (tie.spec (λ c κs. search needs) returns returns-2 returns-3 target-of-requires returns-4)
+    tie.close (tie.spec (λ c κs. search needs) returns returns-2 returns-3 (λ c κs. search needs) returns-4)

@@ -1,10 +1,6 @@
 -- `decode_read` meets its contract: each answer by the law of its case.
 -- Assumes nothing.
-use mathlib.Core.Path.{_≡_, refl, sym, ap, _∙_}
-use native.Mathlib.Omega.{arith}
-use lib.ListN.{length, getD}
-use Rattle.command.specs.Commands.{restOf}
-use Rattle.command.proofs.Laws.{rest-some, read-length, read-none, read-many, read-right}
+use Rattle.command.proofs.Laws.{read-length, read-none, read-many, read-right}
 use borrow.Author.Needs.{needs}
 use Rattle.command.proofs.fields.decode_read.Statement.{statement}
 use Rattle.command.proofs.fields.decode_read.Tie as tie
@@ -24,11 +20,6 @@ returns-3 c =
     let a = c .before .before .before .before .before .before .args in
     read-many (a .datagram .now) (c .before .before .before .before .rest .ensures) (c .before .before .before .if1 .left) (c .before .if2 .left) (c .if3 .taken)
 
-target-of-requires : tie.Need-target-of-requires
-target-of-requires c κs =
-    let a = c .before .before .before .before .before .before .args in
-    rest-some (a .datagram .now) (c .before .before .before .before .before .before .pre) (omega (arith, ap length (c .before .before .before .before .rest .ensures)))
-
 returns-4 : tie.Need-returns-4
 returns-4 c =
     let a = c .before .before .before .before .before .before .before .args in
@@ -44,5 +35,5 @@ decode-read-spec =
     (λ c. search needs)
     returns-2
     returns-3
-    target-of-requires
+    (λ c κs. search needs)
     returns-4)

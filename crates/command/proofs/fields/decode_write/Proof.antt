@@ -1,9 +1,6 @@
 -- `decode_write` meets its contract: each answer by the law of its case.
 -- Assumes nothing.
-use mathlib.Core.Path.{_≡_, refl, sym, ap, _∙_}
-use native.Mathlib.Omega.{arith}
-use lib.ListN.{length, getD}
-use Rattle.command.proofs.Laws.{rest-some, write-none, write-many, write-right}
+use Rattle.command.proofs.Laws.{write-none, write-many, write-right}
 use borrow.Author.Needs.{needs}
 use Rattle.command.proofs.fields.decode_write.Statement.{statement}
 use Rattle.command.proofs.fields.decode_write.Tie as tie
@@ -14,11 +11,6 @@ returns c = write-none (c .before .before .before .args .datagram .now) (c .befo
 returns-2 : tie.Need-returns-2
 returns-2 c = write-many (c .before .before .before .before .args .datagram .now) (c .before .before .rest .ensures) (c .before .if1 .left) (c .if2 .taken)
 
-target-of-requires : tie.Need-target-of-requires
-target-of-requires c κs =
-    let e = c .before .before .before .before in
-    rest-some (e .args .datagram .now) (e .pre) (omega (arith, ap length (c .before .before .rest .ensures), c .before .if1 .left))
-
 returns-3 : tie.Need-returns-3
 returns-3 c =
     let t = c .target-of .ensures in
@@ -26,4 +18,4 @@ returns-3 c =
 
 pub decode-write-spec : {M : Type 1} → statement M
 decode-write-spec =
-    tie.close (tie.spec (λ c κs. search needs) returns returns-2 target-of-requires returns-3)
+    tie.close (tie.spec (λ c κs. search needs) returns returns-2 (λ c κs. search needs) returns-3)
