@@ -15,7 +15,9 @@ ghost use lib.ListN.{length};
 ghost use Rattle.board.specs.HouseNumbers.{descriptionHouse};
 ghost use Rattle.command.specs.Decoding.{requestOf};
 ghost use Rattle.command.proofs.Laws.{Allowed};
-ghost use Rattle.node.specs.Performing.{fixed, contents, perform, handle};
+ghost use Rattle.buffer.specs.Buffer.{over};
+ghost use Rattle.board.specs.Description.{spacesOf, findSpace};
+ghost use Rattle.node.specs.Performing.{fixed, contents, informationReply, perform, handle};
 ghost use Rattle.node.specs.Datagram.{Agrees};
 
 // An answer that leaves the lock as it is.
@@ -28,6 +30,17 @@ fn keep(answer: Answer, lock: [u8; 6]) -> Done
     }
 }
 
+// 0x84: what is known of a space.
+fn inform(description: Description, space: u8, reply: &mut [u8]) -> Answer
+    requires { ⌜ 72 ≤ length (now reply) ⌝ }
+    ensures { λ r. ⌜ r ≡ Answer.Replied (length (informationReply space (findSpace (spacesOf description) space))) ⌝ }
+    ensures { λ _. ⌜ now (reply .exit) ≡ over (informationReply space (findSpace (spacesOf description) space)) (now (reply .entry)) ⌝ }
+{
+    let found = board::find_space(description, space);
+    inquiry::information(space, found, reply)
+}
+
+// What a request asks for.
 pub fn perform(
     description: Description,
     flash: &[u8],
@@ -72,8 +85,7 @@ pub fn perform(
             return keep(inquiry::options(description, reply), lock);
         }
         Command::Information { space } => {
-            let found = board::find_space(description, space);
-            return keep(inquiry::information(space, found, reply), lock);
+            return keep(inform(description, space, reply), lock);
         }
         Command::Lock => {
             return lock::reserve(&memory[..], lock, rest, reply);

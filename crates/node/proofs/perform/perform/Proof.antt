@@ -60,9 +60,9 @@ returns-4 c =
 returns-5 : tie.Need-returns-5
 unfolding perform
 returns-5 c =
-    let g = c .before .before .before .before .before .before .before .command4 .given in
-    let o = c .before .before .before .information .ensures in
-    rw (g .1, ← c .before .before .before .before .before .find-space4 .ensures) (record { answer = c .keep2 .ensures .0 ∙ o .0; lock = c .keep2 .ensures .1; reply = o .1; memory = refl })
+    let g = c .before .before .before .before .before .before .command4 .given in
+    let o = c .before .before .before .inform .ensures in
+    rw (g .1) (record { answer = c .keep2 .ensures .0 ∙ o .0; lock = c .keep2 .ensures .1; reply = o .1; memory = refl })
 
 reserve-requires : tie.Need-reserve-requires
 reserve-requires c κs =
@@ -105,7 +105,6 @@ perform-spec =
     (λ c. search needs)
     returns-4
     (λ c. search needs)
-    (λ c κs. search needs)
     (λ c κs. search needs)
     (λ c κs. search needs)
     (λ c. search needs)
