@@ -62,9 +62,10 @@ pub fn for_model(reception: &ffi::Reception, pool: &[u8; POOL_BYTES]) -> Recepti
     Reception::from_unfinished(&entries).expect("eight places")
 }
 
-/// The unfinished datagrams of the library's state, in the order of their sources.
+/// The unfinished datagrams of the library's state, in the order of its places. A damaged state
+/// goes to the model in this order too: twins then need not stand side by side.
 fn held<'p>(reception: &ffi::Reception, pool: &'p [u8]) -> Vec<Unfinished<'p>> {
-    let mut entries: Vec<_> = reception
+    reception
         .places
         .iter()
         .zip(pool.chunks_exact(PLACE_BYTES))
@@ -74,13 +75,11 @@ fn held<'p>(reception: &ffi::Reception, pool: &'p [u8]) -> Vec<Unfinished<'p>> {
             length: usize::from(place.len),
             bytes: &bytes[..usize::from(place.len).min(PLACE_BYTES)],
         })
-        .collect();
-    entries.sort_unstable();
-    entries
+        .collect()
 }
 
-fn held_by_model(reception: &Reception) -> Vec<Unfinished<'_>> {
-    let mut entries: Vec<_> = reception.unfinished().collect();
+/// The same, in an order that does not depend on places.
+fn in_order(mut entries: Vec<Unfinished<'_>>) -> Vec<Unfinished<'_>> {
     entries.sort_unstable();
     entries
 }
@@ -301,7 +300,8 @@ impl Setup {
         )?;
         same(library.lock.bytes == model.lock, "the locks differ")?;
         same(
-            held(&library.reception, library.pool.bytes()) == held_by_model(&model.reception),
+            in_order(held(&library.reception, library.pool.bytes()))
+                == in_order(model.reception.unfinished().collect()),
             "the unfinished datagrams differ",
         )?;
 
@@ -404,7 +404,7 @@ impl Setup {
         for entry in held(&library.reception, library.pool.bytes()) {
             line("library: holds", &format!("{entry:X?}"));
         }
-        for entry in held_by_model(&model.reception) {
+        for entry in model.reception.unfinished() {
             line("model:   holds", &format!("{entry:X?}"));
         }
     }
