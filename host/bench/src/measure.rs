@@ -8,7 +8,8 @@ use crate::boards::{LibraryBoard, ModelBoard};
 use crate::scenes::Scene;
 use compare::answer::Answer;
 
-const SWEEPS: usize = 9;
+/// A multiple of four: the stack stands at each of its four places in a cache line equally often.
+const SWEEPS: usize = 12;
 const ROUNDS: usize = 61;
 const WARM_UP: usize = 5;
 /// The calls of a batch: about a tenth of a millisecond.
@@ -132,11 +133,25 @@ impl<'s> Subject<'s> {
     }
 }
 
-/// Measures all of them in sweeps, so that a slow minute is not one subject's alone.
+/// Measures all of them in sweeps, so that a slow minute is not one subject's alone. Structs that
+/// go by value go over the stack, and where that stands in a cache line makes a difference: each
+/// sweep has it elsewhere.
 pub fn measure(groups: &mut [Vec<Subject>]) {
-    for _ in 0..SWEEPS {
-        for subject in groups.iter_mut().flatten() {
-            subject.sweep();
-        }
+    let places = [deeper::<2>, deeper::<4>, deeper::<6>, deeper::<8>];
+    for sweep in 0..SWEEPS {
+        places[sweep % places.len()](&mut || {
+            for subject in groups.iter_mut().flatten() {
+                subject.sweep();
+            }
+        });
     }
+}
+
+/// Does something with the stack so many words deeper.
+#[inline(never)]
+fn deeper<const WORDS: usize>(act: &mut dyn FnMut()) {
+    let mut room = [0u64; WORDS];
+    black_box(&mut room);
+    act();
+    black_box(&mut room);
 }
