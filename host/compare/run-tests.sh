@@ -7,7 +7,7 @@ cd "$(dirname "$0")/../.."
 
 CARGO_TARGET_DIR="$PWD/target/host-rust"
 export CARGO_TARGET_DIR
-calls=10000000
+calls=25000000
 
 if [ ! -f target/staticlib/libdriver.a ]; then
     echo "host/compare: target/staticlib/libdriver.a is missing" >&2
