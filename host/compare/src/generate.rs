@@ -3,7 +3,15 @@
 
 use crate::ffi::{self, Flag, MOST_SPACES, PLACES, PLACE_BYTES};
 use crate::random::Random;
-use model::{Space, LARGEST_STORE, LAST_ALIAS};
+use model::Space;
+
+// The limits of document 01. They are not taken from the model: one that had them wrong would get
+// input that hides it.
+
+/// The most bytes that flash, and that memory, may have.
+pub const LARGEST_STORE: usize = 65_536;
+/// The last alias.
+pub const LAST_ALIAS: u16 = 4_095;
 
 /// A board description that neither side has seen yet.
 #[derive(Clone, Debug)]

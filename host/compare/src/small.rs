@@ -1,12 +1,12 @@
 //! Holds the comparison of the smaller calls: cutting, the transport replies, and lines.
 
 use crate::ffi::{self, Frame};
-use crate::generate::{line, wide_alias};
+use crate::generate::{line, wide_alias, LAST_ALIAS};
 use crate::guarded::Guarded;
 use crate::random::Random;
 use crate::setup::hex;
 use crate::tally::{Case, Tally};
-use model::{HouseNumber, LAST_ALIAS, LONGEST_LINE};
+use model::{HouseNumber, LONGEST_LINE};
 
 const NO_FRAME: Frame = Frame {
     header: 0,
