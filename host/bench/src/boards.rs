@@ -1,0 +1,220 @@
+//! Holds a board as each side has it: what a caller keeps between two frames.
+
+use std::hint::black_box;
+
+use compare::ffi::{self, Flag, MOST_SPACES, POOL_BYTES};
+use model::{FrameAnswer, Reception, Space, Unfinished};
+
+/// A frame to be fed in.
+#[derive(Clone, Copy, Debug)]
+pub struct Incoming {
+    header: u32,
+    len: usize,
+    bytes: [u8; 8],
+}
+
+impl Incoming {
+    /// A frame with this header and these data, at most 8 bytes.
+    #[must_use]
+    pub fn new(header: u32, data: &[u8]) -> Self {
+        let mut bytes = [0; 8];
+        bytes[..data.len()].copy_from_slice(data);
+        Self {
+            header,
+            len: data.len(),
+            bytes,
+        }
+    }
+
+    /// The data.
+    #[inline]
+    fn data(&self) -> &[u8] {
+        &self.bytes[..self.len]
+    }
+}
+
+/// What a board is made of, for either side.
+#[derive(Clone, Debug)]
+pub struct Blueprint {
+    /// The board's alias.
+    pub alias: u16,
+    /// Its spaces.
+    pub spaces: Vec<Space>,
+    /// What is in flash.
+    pub flash: Vec<u8>,
+    /// How many bytes of memory it has.
+    pub memory_len: usize,
+    /// The tools that have a datagram of 20 bytes unfinished.
+    pub others: Vec<u16>,
+}
+
+const BEGUN: [u8; 20] = [0x20; 20];
+const WRITE_LENGTHS: u8 = 0xF2;
+
+/// The board as a caller of the library keeps it.
+pub struct LibraryBoard {
+    description: ffi::Description,
+    flash: Vec<u8>,
+    memory: Vec<u8>,
+    lock: ffi::Lock,
+    pool: [u8; POOL_BYTES],
+    reception: ffi::Reception,
+    reply: [u8; 72],
+}
+
+/// The board as a caller of the model keeps it.
+pub struct ModelBoard {
+    blueprint: Blueprint,
+    memory: Vec<u8>,
+    lock: model::Lock,
+    reception: Reception,
+    reply: [u8; 72],
+}
+
+impl LibraryBoard {
+    /// A fresh board.
+    #[must_use]
+    pub fn new(blueprint: &Blueprint) -> Self {
+        let unused = ffi::Space {
+            number: 0,
+            read_only: Flag::from(false),
+            in_flash: Flag::from(false),
+            lowest: 0,
+            highest: 0,
+            offset: 0,
+        };
+        let mut spaces = [unused; MOST_SPACES];
+        for (place, space) in spaces.iter_mut().zip(&blueprint.spaces) {
+            *place = ffi::Space {
+                number: space.number,
+                read_only: Flag::from(space.read_only),
+                in_flash: Flag::from(space.in_flash),
+                lowest: space.lowest,
+                highest: space.highest,
+                offset: space.offset,
+            };
+        }
+        let mut reception = ffi::new_reception();
+        let mut pool = [0; POOL_BYTES];
+        for ((place, bytes), &source) in reception
+            .places
+            .iter_mut()
+            .zip(pool.chunks_exact_mut(72))
+            .zip(&blueprint.others)
+        {
+            place.held = Flag::from(true);
+            place.len = BEGUN.len() as u8;
+            place.source = source;
+            bytes[..BEGUN.len()].copy_from_slice(&BEGUN);
+        }
+        Self {
+            description: ffi::Description {
+                alias: blueprint.alias,
+                write_lengths: WRITE_LENGTHS,
+                count: blueprint.spaces.len(),
+                spaces,
+            },
+            flash: blueprint.flash.clone(),
+            memory: vec![0; blueprint.memory_len],
+            lock: ffi::Lock { bytes: [0; 6] },
+            pool,
+            reception,
+            reply: [0; 72],
+        }
+    }
+
+    /// Feeds one frame in, as a driver does: what the call gives is kept for the next one.
+    #[inline]
+    pub fn frame(&mut self, frame: &Incoming) -> ffi::Numbers {
+        let done = ffi::handle_frame(
+            black_box(&self.description),
+            &self.flash,
+            &mut self.memory,
+            self.lock,
+            &mut self.pool,
+            &self.reception,
+            frame.header,
+            frame.data(),
+            &mut self.reply,
+        );
+        self.lock = done.lock;
+        self.reception = done.reception;
+        done.answer
+    }
+
+    /// The reply buffer.
+    #[must_use]
+    pub const fn reply(&self) -> &[u8; 72] {
+        &self.reply
+    }
+
+    /// Memory.
+    #[must_use]
+    pub fn memory(&self) -> &[u8] {
+        &self.memory
+    }
+}
+
+impl ModelBoard {
+    /// A fresh board.
+    ///
+    /// # Panics
+    ///
+    /// Where there are over eight other tools.
+    #[must_use]
+    pub fn new(blueprint: &Blueprint) -> Self {
+        let begun: Vec<_> = blueprint
+            .others
+            .iter()
+            .map(|&source| Unfinished {
+                source,
+                length: BEGUN.len(),
+                bytes: &BEGUN,
+            })
+            .collect();
+        Self {
+            memory: vec![0; blueprint.memory_len],
+            lock: [0; 6],
+            reception: Reception::from_unfinished(&begun).expect("at most eight tools"),
+            reply: [0; 72],
+            blueprint: blueprint.clone(),
+        }
+    }
+
+    /// Feeds one frame in.
+    ///
+    /// # Panics
+    ///
+    /// Where the board is refused.
+    #[inline]
+    pub fn frame(&mut self, frame: &Incoming) -> FrameAnswer {
+        let description = model::Description {
+            alias: self.blueprint.alias,
+            write_lengths: WRITE_LENGTHS,
+            spaces: &self.blueprint.spaces,
+        };
+        model::handle_frame(
+            black_box(&description),
+            &self.blueprint.flash,
+            &mut self.memory,
+            &mut self.lock,
+            &mut self.reception,
+            frame.header,
+            frame.data(),
+            &mut self.reply,
+        )
+        .expect("a good board")
+    }
+
+    /// The reply buffer.
+    #[must_use]
+    pub const fn reply(&self) -> &[u8; 72] {
+        &self.reply
+    }
+
+    /// Memory.
+    #[must_use]
+    pub fn memory(&self) -> &[u8] {
+        &self.memory
+    }
+}

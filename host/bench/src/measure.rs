@@ -1,0 +1,157 @@
+//! Holds the measuring: short batches of either side by turns, all scenes in several sweeps, and
+//! medians, so that what else the machine does falls on all of them alike.
+
+use std::hint::black_box;
+use std::time::Instant;
+
+use crate::boards::{LibraryBoard, ModelBoard};
+use crate::scenes::Scene;
+use compare::answer::Answer;
+
+/// A multiple of four: the stack stands at each of its four places in a cache line equally often.
+const SWEEPS: usize = 12;
+const ROUNDS: usize = 61;
+const WARM_UP: usize = 5;
+/// The calls of a batch: about a tenth of a millisecond.
+const BATCH: usize = 2_000;
+
+/// Nanoseconds for one call of each side.
+#[derive(Clone, Copy, Debug)]
+pub struct Figures {
+    /// Of the library.
+    pub library: f64,
+    /// Of the model.
+    pub model: f64,
+    /// How many times as long the library takes, in batches that follow one another.
+    pub ratio: f64,
+}
+
+/// Something that both sides do.
+pub struct Subject<'s> {
+    name: String,
+    calls_each_time: usize,
+    library: Box<dyn FnMut(usize) + 's>,
+    model: Box<dyn FnMut(usize) + 's>,
+    batches: Vec<Figures>,
+}
+
+impl<'s> Subject<'s> {
+    /// Something with a name; each side is told how often to do it, and makes so many calls each
+    /// time.
+    pub fn new(
+        name: &str,
+        calls_each_time: usize,
+        library: impl FnMut(usize) + 's,
+        model: impl FnMut(usize) + 's,
+    ) -> Self {
+        Self {
+            name: name.to_owned(),
+            calls_each_time,
+            library: Box::new(library),
+            model: Box::new(model),
+            batches: Vec::with_capacity(SWEEPS * ROUNDS),
+        }
+    }
+
+    /// The frames of a scene, after a test that both sides do the same with them.
+    ///
+    /// # Panics
+    ///
+    /// Where they do not: figures of different work are worth nothing.
+    #[must_use]
+    pub fn of_scene(scene: &'s Scene) -> Self {
+        let mut library = LibraryBoard::new(&scene.blueprint);
+        let mut model = ModelBoard::new(&scene.blueprint);
+        for frame in &scene.frames {
+            let name = &scene.name;
+            let answer = Answer::from(library.frame(frame));
+            assert_eq!(answer, Answer::from(Ok(model.frame(frame))), "{name}");
+            assert!(!matches!(answer, Answer::TransportRefusal(_)), "{name}");
+            assert_eq!(library.reply(), model.reply(), "{name}");
+            assert_eq!(library.memory(), model.memory(), "{name}");
+        }
+        Self::new(
+            &scene.name,
+            scene.frames.len(),
+            move |times| {
+                for _ in 0..times {
+                    for frame in &scene.frames {
+                        black_box(library.frame(black_box(frame)));
+                    }
+                }
+            },
+            move |times| {
+                for _ in 0..times {
+                    for frame in &scene.frames {
+                        black_box(model.frame(black_box(frame)));
+                    }
+                }
+            },
+        )
+    }
+
+    /// Its name.
+    #[must_use]
+    pub fn name(&self) -> &str {
+        &self.name
+    }
+
+    fn sweep(&mut self) {
+        let times = BATCH.div_ceil(self.calls_each_time);
+        let calls = (times * self.calls_each_time) as f64;
+        for round in 0..WARM_UP + ROUNDS {
+            let start = Instant::now();
+            (self.library)(times);
+            let middle = Instant::now();
+            (self.model)(times);
+            let end = Instant::now();
+            if round >= WARM_UP {
+                let library = (middle - start).as_nanos() as f64 / calls;
+                let model = (end - middle).as_nanos() as f64 / calls;
+                self.batches.push(Figures {
+                    library,
+                    model,
+                    ratio: library / model,
+                });
+            }
+        }
+    }
+
+    /// The medians of all batches.
+    #[must_use]
+    pub fn figures(&self) -> Figures {
+        let median = |of: fn(&Figures) -> f64| {
+            let mut all: Vec<f64> = self.batches.iter().map(of).collect();
+            all.sort_by(f64::total_cmp);
+            all[all.len() / 2]
+        };
+        Figures {
+            library: median(|figures| figures.library),
+            model: median(|figures| figures.model),
+            ratio: median(|figures| figures.ratio),
+        }
+    }
+}
+
+/// Measures all of them in sweeps, so that a slow minute is not one subject's alone. Structs that
+/// go by value go over the stack, and where that stands in a cache line makes a difference: each
+/// sweep has it elsewhere.
+pub fn measure(groups: &mut [Vec<Subject>]) {
+    let places = [deeper::<2>, deeper::<4>, deeper::<6>, deeper::<8>];
+    for sweep in 0..SWEEPS {
+        places[sweep % places.len()](&mut || {
+            for subject in groups.iter_mut().flatten() {
+                subject.sweep();
+            }
+        });
+    }
+}
+
+/// Does something with the stack so many words deeper.
+#[inline(never)]
+fn deeper<const WORDS: usize>(act: &mut dyn FnMut()) {
+    let mut room = [0u64; WORDS];
+    black_box(&mut room);
+    act();
+    black_box(&mut room);
+}

@@ -1,0 +1,18 @@
+//! Holds where the library is found: `target/staticlib` at the root of the repository.
+
+use std::env;
+use std::path::Path;
+
+fn main() {
+    let package = env::var("CARGO_MANIFEST_DIR").expect("cargo names the package's directory");
+    let directory = Path::new(&package).join("../../target/staticlib");
+    let library = directory.join("libdriver.a");
+    assert!(
+        library.exists(),
+        "{} is missing: build it with `rt staticlib driver`",
+        library.display()
+    );
+    println!("cargo:rustc-link-search=native={}", directory.display());
+    // A rebuilt library has to be linked anew.
+    println!("cargo:rerun-if-changed={}", library.display());
+}

@@ -1,0 +1,27 @@
+#!/bin/sh
+# Holds the test run of the host side: the tests of the model and of this package, and the
+# comparison of library and model with a fixed seed and with one from the clock.
+# The library has to be there: target/staticlib/libdriver.a, built by `rt staticlib driver`.
+set -eu
+cd "$(dirname "$0")/../.."
+
+CARGO_TARGET_DIR="$PWD/target/host-rust"
+export CARGO_TARGET_DIR
+calls=25000000
+
+if [ ! -f target/staticlib/libdriver.a ]; then
+    echo "host/compare: target/staticlib/libdriver.a is missing" >&2
+    exit 1
+fi
+
+for package in model compare; do
+    cargo test --release --offline --quiet --manifest-path "host/$package/Cargo.toml"
+    cargo build --release --offline --quiet --manifest-path "host/$package/Cargo.toml"
+done
+
+compare="$CARGO_TARGET_DIR/release/compare"
+"$compare" --seed 1 --calls "$calls"
+# The clock's seed is printed by the program, so that what it finds can be had again.
+"$compare" --seed "$(date +%s)" --calls "$calls"
+
+echo "host/compare: all tests passed"

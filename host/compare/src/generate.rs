@@ -1,0 +1,749 @@
+//! Holds the random input: boards good and bad, datagrams, the frames of tools, reception states
+//! and lines. It leans to the edges, where two readings of document 01 would part.
+
+use crate::ffi::{self, Flag, MOST_SPACES, PLACES, PLACE_BYTES};
+use crate::random::Random;
+use model::Space;
+
+// The limits of document 01. They are not taken from the model: one that had them wrong would get
+// input that hides it.
+
+/// The most bytes that flash, and that memory, may have.
+pub const LARGEST_STORE: usize = 65_536;
+/// The last alias.
+pub const LAST_ALIAS: u16 = 4_095;
+
+/// A board description that neither side has seen yet.
+#[derive(Clone, Debug)]
+pub struct Board {
+    /// The board's alias.
+    pub alias: u16,
+    /// The Write Lengths byte.
+    pub write_lengths: u8,
+    /// The spaces; over 16 to be refused.
+    pub spaces: Vec<Space>,
+    /// The count that the library is told where it has to refuse it, since it has room for 16
+    /// spaces only.
+    pub excess: usize,
+    /// What stands in the library's room for spaces behind those described.
+    pub unused: Space,
+    /// How many bytes flash has.
+    pub flash_len: usize,
+    /// How many bytes memory has.
+    pub memory_len: usize,
+}
+
+impl Board {
+    /// The description as the library takes it.
+    #[must_use]
+    pub fn for_library(&self) -> ffi::Description {
+        let mut spaces = [for_library(&self.unused); MOST_SPACES];
+        for (place, space) in spaces.iter_mut().zip(&self.spaces) {
+            *place = for_library(space);
+        }
+        let count = if self.spaces.len() > MOST_SPACES {
+            self.excess
+        } else {
+            self.spaces.len()
+        };
+        ffi::Description {
+            alias: self.alias,
+            write_lengths: self.write_lengths,
+            count,
+            spaces,
+        }
+    }
+
+    /// The description as the model takes it.
+    #[must_use]
+    pub fn for_model(&self) -> model::Description<'_> {
+        model::Description {
+            alias: self.alias,
+            write_lengths: self.write_lengths,
+            spaces: &self.spaces,
+        }
+    }
+}
+
+fn for_library(space: &Space) -> ffi::Space {
+    ffi::Space {
+        number: space.number,
+        read_only: Flag::from(space.read_only),
+        in_flash: Flag::from(space.in_flash),
+        lowest: space.lowest,
+        highest: space.highest,
+        offset: space.offset,
+    }
+}
+
+/// A space of which nothing is right but by accident.
+fn any_space(random: &mut Random) -> Space {
+    Space {
+        number: any_number(random),
+        lowest: any_address(random),
+        highest: any_address(random),
+        read_only: random.once_in(2),
+        in_flash: random.once_in(2),
+        offset: if random.once_in(2) {
+            random.below(128) as u32
+        } else {
+            any_address(random)
+        },
+    }
+}
+
+fn any_number(random: &mut Random) -> u8 {
+    match random.below(4) {
+        0 => random.pick(&[0xFD, 0xFE, 0xFF]),
+        1 => random.pick(&[0x00, 0x01, 0x10, 0x7F, 0x80, 0xFB, 0xFC]),
+        _ => random.byte(),
+    }
+}
+
+fn any_address(random: &mut Random) -> u32 {
+    match random.below(4) {
+        0 => random.pick(&[0, 1, 0x7FFF_FFFF, 0x8000_0000, 0xFFFF_FFFE, 0xFFFF_FFFF]),
+        1 => random.below(0x200) as u32,
+        2 => u32::MAX - random.below(0x200) as u32,
+        _ => random.word(),
+    }
+}
+
+fn any_alias(random: &mut Random) -> u16 {
+    if random.once_in(2) {
+        random.pick(&[1, 2, 0x22B, 0x7FF, 0x800, 0xFFE, 0xFFF])
+    } else {
+        random_alias(random)
+    }
+}
+
+fn random_alias(random: &mut Random) -> u16 {
+    random.between(1, usize::from(LAST_ALIAS)) as u16
+}
+
+/// How many bytes flash or memory has. Mostly few, so that what is compared after each call is
+/// not mostly that.
+fn store_len(random: &mut Random) -> usize {
+    match random.below(64) {
+        0..=7 => 0,
+        8..=11 => 1,
+        12..=40 => random.between(2, 128),
+        41..=62 => random.between(64, 600),
+        _ => random.pick(&[LARGEST_STORE, LARGEST_STORE - 1, 40_000]),
+    }
+}
+
+/// A board that no house number refuses.
+pub fn good_board(random: &mut Random) -> Board {
+    let flash_len = store_len(random);
+    let memory_len = store_len(random);
+    let wanted = match random.below(8) {
+        0 => 0,
+        1 => 1,
+        2 => 16,
+        3 => 15,
+        _ => random.between(1, 8),
+    };
+    let mut spaces = Vec::with_capacity(wanted);
+    while spaces.len() < wanted && flash_len + memory_len > 0 {
+        let space = good_space(random, &spaces, flash_len, memory_len);
+        spaces.push(space);
+    }
+    Board {
+        alias: any_alias(random),
+        write_lengths: random.byte(),
+        spaces,
+        excess: excess(random),
+        unused: any_space(random),
+        flash_len,
+        memory_len,
+    }
+}
+
+/// A count over 16, one among them whose low bits alone would do.
+fn excess(random: &mut Random) -> usize {
+    random.pick(&[17, 18, 32, 256, 65_540, (1 << 32) + 4, usize::MAX])
+}
+
+/// A good space behind these; at least one of the two stores has a byte.
+fn good_space(
+    random: &mut Random,
+    earlier: &[Space],
+    flash_len: usize,
+    memory_len: usize,
+) -> Space {
+    let number = loop {
+        let number = any_number(random);
+        if earlier.iter().all(|space| space.number != number) {
+            break number;
+        }
+    };
+    let in_flash = memory_len == 0 || (flash_len != 0 && random.once_in(4));
+    let store = if in_flash { flash_len } else { memory_len };
+    let size = match random.below(6) {
+        0 => store,
+        1 => random.pick(&[1, 2, 16, 63, 64, 65]).min(store),
+        _ => random.between(1, store),
+    };
+    let offset = match random.below(4) {
+        0 => 0,
+        1 => store - size,
+        _ => random.between(0, store - size),
+    };
+    let highest_start = u32::MAX - (size as u32 - 1);
+    let lowest = match random.below(6) {
+        0..=2 => 0,
+        3 => highest_start,
+        4 => highest_start.min(random.pick(&[1, 0x100, 0xFFFF, 0x7FFF_FFF0, 0x8000_0000])),
+        _ => highest_start.min(random.word()),
+    };
+    Space {
+        number,
+        lowest,
+        highest: lowest + (size as u32 - 1),
+        read_only: in_flash || number == 0xFF || random.once_in(4),
+        in_flash,
+        offset: offset as u32,
+    }
+}
+
+/// Spoils a board in one way, so that mostly one of B1 to B5 refuses it.
+pub fn spoil_board(random: &mut Random, board: &mut Board) {
+    let kind = random.below(12);
+    if board.spaces.is_empty() && kind > 2 {
+        board.spaces.push(any_space(random));
+        return;
+    }
+    let index = random.below(board.spaces.len().max(1));
+    match kind {
+        0 => board.alias = random.pick(&[0, 0x1000, 0x1001, 0xFFFF, 0x1000 | board.alias]),
+        1 => match random.below(8) {
+            0 => board.memory_len = LARGEST_STORE + 1,
+            1 => board.flash_len = LARGEST_STORE + 1,
+            _ => board.alias = 0x1000 + random.below(0xF000) as u16,
+        },
+        2 => {
+            board.excess = excess(random);
+            while board.spaces.len() <= MOST_SPACES {
+                let space = any_space(random);
+                board.spaces.push(space);
+            }
+        }
+        3 | 4 => {
+            let space = &mut board.spaces[index];
+            if space.highest == u32::MAX {
+                space.highest -= 1;
+            }
+            space.lowest = space.highest + 1;
+        }
+        5 | 6 => {
+            let store = if board.spaces[index].in_flash {
+                board.flash_len
+            } else {
+                board.memory_len
+            };
+            let space = &mut board.spaces[index];
+            let size = u64::from(space.highest.saturating_sub(space.lowest)) + 1;
+            match random.below(4) {
+                // One byte too far.
+                0 | 1 => {
+                    space.offset = (store as u64 + 1)
+                        .saturating_sub(size)
+                        .min(u64::from(u32::MAX)) as u32;
+                }
+                // So far that the end does not fit 32 bits.
+                2 => space.offset = u32::MAX - random.below(4) as u32,
+                _ => (space.lowest, space.highest) = (0, u32::MAX),
+            }
+        }
+        7 | 8 => {
+            let space = &mut board.spaces[index];
+            space.read_only = false;
+            if random.once_in(2) {
+                space.in_flash = true;
+            } else {
+                space.number = 0xFF;
+            }
+        }
+        9 | 10 => {
+            let number = board.spaces[random.below(board.spaces.len())].number;
+            let mut twin = board.spaces[index];
+            twin.number = number;
+            if board.spaces.len() < MOST_SPACES {
+                board.spaces.push(twin);
+            } else {
+                board.spaces[index] = twin;
+            }
+        }
+        _ => board.spaces[index] = any_space(random),
+    }
+}
+
+/// A datagram for this board, mostly a good command.
+pub fn datagram(random: &mut Random, board: &Board) -> Vec<u8> {
+    let mut datagram = match random.below(40) {
+        0..=11 => read(random, board),
+        12..=19 => write(random, board),
+        20..=27 => masked_write(random, board),
+        28 => vec![0x20, 0x80],
+        29..=31 => vec![0x20, 0x84, space_number(random, board)],
+        32..=34 => lock(random),
+        35 => vec![0x20, 0xA8],
+        36 | 37 => {
+            let mut unknown = vec![0x20, random.byte()];
+            let length = random.below(12);
+            unknown.extend(random.bytes(length));
+            unknown
+        }
+        38 => {
+            let length = random.between(0, 80);
+            random.bytes(length)
+        }
+        _ => {
+            let length = random.between(0, 80);
+            let mut bytes = random.bytes(length);
+            if let Some(first) = bytes.first_mut() {
+                *first = 0x20;
+            }
+            if let Some(command) = bytes.get_mut(1) {
+                *command = random.pick(&COMMANDS);
+            }
+            bytes
+        }
+    };
+    if random.once_in(8) {
+        spoil_datagram(random, &mut datagram);
+    }
+    datagram
+}
+
+/// The commands that are not unknown.
+pub const COMMANDS: [u8; 16] = [
+    0x00, 0x01, 0x02, 0x03, 0x08, 0x09, 0x0A, 0x0B, 0x40, 0x41, 0x42, 0x43, 0x80, 0x84, 0x88, 0xA8,
+];
+
+fn spoil_datagram(random: &mut Random, datagram: &mut Vec<u8>) {
+    match random.below(8) {
+        0 => datagram.truncate(random.below(10)),
+        1 => {
+            datagram.pop();
+        }
+        2 => datagram.push(random.byte()),
+        3 => {
+            let length = random.between(60, 80);
+            while datagram.len() < length {
+                datagram.push(random.byte());
+            }
+        }
+        4 => {
+            if let Some(first) = datagram.first_mut() {
+                *first = random.pick(&[0x00, 0x21, 0x30, 0xA0, 0x02, 0xFF]);
+            }
+        }
+        5 => {
+            if let Some(command) = datagram.get_mut(1) {
+                *command ^= 1 << random.below(8);
+            }
+        }
+        _ => {
+            if !datagram.is_empty() {
+                let index = random.below(datagram.len());
+                datagram[index] = random.byte();
+            }
+        }
+    }
+}
+
+/// A space number, mostly one that is described.
+fn space_number(random: &mut Random, board: &Board) -> u8 {
+    if board.spaces.is_empty() || random.once_in(5) {
+        any_number(random)
+    } else {
+        board.spaces[random.below(board.spaces.len())].number
+    }
+}
+
+/// A space number for a write, mostly one that is described and writable.
+fn writable_number(random: &mut Random, board: &Board) -> u8 {
+    let writable = |space: &&Space| !space.read_only;
+    let count = board.spaces.iter().filter(writable).count();
+    if count == 0 || random.once_in(3) {
+        return space_number(random, board);
+    }
+    let index = random.below(count);
+    board
+        .spaces
+        .iter()
+        .filter(writable)
+        .nth(index)
+        .map_or(0xFD, |space| space.number)
+}
+
+/// The start of a read, write or masked write of so many bytes.
+fn addressed(random: &mut Random, board: &Board, base: u8, number: u8, count: usize) -> Vec<u8> {
+    let in_command = number >= 0xFD && !random.once_in(3);
+    let low_bits = if in_command { number - 0xFC } else { 0 };
+    let mut start = vec![0x20, base + low_bits];
+    start.extend(address(random, board, number, count).to_be_bytes());
+    if !in_command {
+        start.push(number);
+    }
+    start
+}
+
+/// An address for a command on that space, mostly inside or next to an edge.
+fn address(random: &mut Random, board: &Board, number: u8, count: usize) -> u32 {
+    let Some(space) = board.spaces.iter().find(|space| space.number == number) else {
+        return any_address(random);
+    };
+    // The last address from which so many bytes are inside.
+    let last = space.highest.wrapping_sub((count as u32).wrapping_sub(1));
+    let size = u64::from(space.highest.saturating_sub(space.lowest)) + 1;
+    match random.below(14) {
+        0 => space.lowest,
+        1 => space.lowest.wrapping_sub(1),
+        2 => space.highest,
+        3 => space.highest.wrapping_add(1),
+        4 => last,
+        5 => last.wrapping_add(1),
+        6 => any_address(random),
+        7 => space.lowest.wrapping_sub(count as u32),
+        8 => space.highest.wrapping_sub(random.below(70) as u32),
+        _ => {
+            let inside = size
+                .saturating_sub(count as u64 - u64::from(count != 0))
+                .max(1);
+            space
+                .lowest
+                .wrapping_add(random.below(inside as usize) as u32)
+        }
+    }
+}
+
+/// How many bytes of that space a command is to have, often more than it has.
+fn size_for(random: &mut Random, board: &Board, number: u8, most: usize) -> usize {
+    match board.spaces.iter().find(|space| space.number == number) {
+        Some(space) if !random.once_in(4) => {
+            let size = space.highest.saturating_sub(space.lowest) as usize + 1;
+            random.between(1, size.min(most))
+        }
+        _ => random.between(1, most),
+    }
+}
+
+fn read(random: &mut Random, board: &Board) -> Vec<u8> {
+    let number = space_number(random, board);
+    let count = match random.below(6) {
+        0 => random.pick(&[
+            0x00, 0x01, 0x3F, 0x40, 0x41, 0x7F, 0x80, 0x81, 0xC0, 0xC1, 0xFF,
+        ]),
+        1 => random.byte(),
+        _ => {
+            let size = size_for(random, board, number, 64) as u8;
+            if random.once_in(4) {
+                size | 0x80
+            } else {
+                size
+            }
+        }
+    };
+    let mut datagram = addressed(random, board, 0x40, number, usize::from(count & 0x7F));
+    datagram.push(count);
+    datagram
+}
+
+fn write(random: &mut Random, board: &Board) -> Vec<u8> {
+    let number = writable_number(random, board);
+    let count = match random.below(5) {
+        0 => random.pick(&[0, 1, 2, 63, 64, 65]),
+        _ => size_for(random, board, number, 64),
+    };
+    let mut datagram = addressed(random, board, 0x00, number, count);
+    datagram.extend(random.bytes(count));
+    datagram
+}
+
+fn masked_write(random: &mut Random, board: &Board) -> Vec<u8> {
+    let number = writable_number(random, board);
+    let length = match random.below(5) {
+        0 => random.pick(&[0, 1, 2, 3, 62, 63, 64, 65, 66]),
+        _ => 2 * size_for(random, board, number, 32),
+    };
+    let mut datagram = addressed(random, board, 0x08, number, length / 2);
+    for index in 0..length {
+        let byte = if index % 2 == 0 && random.once_in(2) {
+            random.pick(&[0x00, 0x0F, 0x80, 0xFF])
+        } else {
+            random.byte()
+        };
+        datagram.push(byte);
+    }
+    datagram
+}
+
+fn lock(random: &mut Random) -> Vec<u8> {
+    let mut datagram = vec![0x20, 0x88];
+    let id = match random.below(8) {
+        0..=2 => [0; 6],
+        3 => [0, 0, 0, 0, 0, 1],
+        4 => [1, 0, 0, 0, 0, 0],
+        5 => [0, 0, 0x80, 0, 0, 0],
+        _ => {
+            let mut id = [0; 6];
+            random.fill(&mut id);
+            id
+        }
+    };
+    datagram.extend(id);
+    datagram
+}
+
+/// A tool that sends datagrams in frames.
+#[derive(Clone, Debug)]
+pub struct Tool {
+    source: u16,
+    datagram: Vec<u8>,
+    /// How many bytes of it have been sent; `None` where not even its First has been.
+    sent: Option<usize>,
+}
+
+/// A frame as it comes from the bus.
+#[derive(Clone, Debug)]
+pub struct Incoming {
+    /// The header, over 29 bits at times.
+    pub header: u32,
+    /// The data, over 8 bytes at times.
+    pub data: Vec<u8>,
+}
+
+const SINGLE: u32 = 0x1A;
+const FIRST: u32 = 0x1B;
+const MIDDLE: u32 = 0x1C;
+const LAST: u32 = 0x1D;
+
+impl Tool {
+    /// A tool with this alias.
+    #[must_use]
+    pub const fn new(source: u16) -> Self {
+        Self {
+            source,
+            datagram: Vec::new(),
+            sent: None,
+        }
+    }
+
+    /// The kind and data of the frame that is next by the rules.
+    fn regular(&mut self, random: &mut Random, board: &Board) -> (u32, Vec<u8>) {
+        let Some(sent) = self.sent else {
+            self.datagram = datagram(random, board);
+            if self.datagram.len() <= 8 && !random.once_in(6) {
+                return (SINGLE, self.datagram.clone());
+            }
+            let size = piece(random).min(self.datagram.len());
+            self.sent = Some(size);
+            return (FIRST, self.datagram[..size].to_vec());
+        };
+        let left = &self.datagram[sent..];
+        let size = piece(random).min(left.len());
+        let data = left[..size].to_vec();
+        // An empty Middle is against the rules: an empty piece goes in a Last, with more to come
+        // or not.
+        if size == left.len() && !random.once_in(16) || size == 0 {
+            self.sent = None;
+            (LAST, data)
+        } else {
+            self.sent = Some(sent + size);
+            (MIDDLE, data)
+        }
+    }
+
+    /// Gives up the datagram that is being sent, as a tool does that was refused.
+    pub fn give_up(&mut self) {
+        self.sent = None;
+    }
+
+    /// The next frame, at times one that is against the rules.
+    pub fn frame(&mut self, random: &mut Random, board: &Board) -> Incoming {
+        if random.once_in(200) {
+            return Incoming {
+                header: random.word(),
+                data: any_data(random),
+            };
+        }
+        let before = self.sent;
+        let (mut kind, mut data) = self.regular(random, board);
+        let mut destination = board.alias;
+        let mut source = self.source;
+        if random.once_in(6) {
+            match random.below(14) {
+                0 | 1 => kind = random.pick(&[SINGLE, FIRST, MIDDLE, LAST]),
+                2 => kind = random.pick(&[0x19, 0x1E, 0x1F, 0x00, 0x0A, 0x3A, 0x5B, 0x9C, 0xFD]),
+                3 => destination = random.pick(&[0, 0xFFF, board.alias ^ 1, board.alias ^ 0x800]),
+                4 => source = board.alias,
+                5 => data = any_data(random),
+                6 => data.clear(),
+                // The frame before is lost, or this one is sent again.
+                7 | 8 => (kind, data) = self.regular(random, board),
+                9 => self.sent = before,
+                10 | 11 => self.sent = None,
+                12 => source ^= 1 << random.below(12),
+                _ => kind ^= 1 << random.below(8),
+            }
+        }
+        Incoming {
+            header: kind << 24 | u32::from(destination & 0xFFF) << 12 | u32::from(source),
+            data,
+        }
+    }
+}
+
+/// How many bytes go in a frame: mostly as many as fit.
+fn piece(random: &mut Random) -> usize {
+    if random.once_in(5) {
+        random.below(9)
+    } else {
+        8
+    }
+}
+
+/// Data of 0 to 80 bytes, mostly near 8.
+fn any_data(random: &mut Random) -> Vec<u8> {
+    let length = match random.below(3) {
+        0 => random.between(0, 80),
+        1 => random.between(7, 10),
+        _ => random.between(0, 8),
+    };
+    random.bytes(length)
+}
+
+/// The tools of a world, some of them more than the board has places for.
+pub fn tools(random: &mut Random, board: &Board) -> Vec<Tool> {
+    let count = random.pick(&[1, 2, 3, 4, 7, 8, 9, 10, 12]);
+    let mut tools: Vec<Tool> = Vec::with_capacity(count);
+    while tools.len() < count {
+        let source = match random.below(4) {
+            0 => random.pick(&[0, 1, 0xFFE, 0xFFF]),
+            1 => (board.alias ^ 1 << random.below(12)) & 0xFFF,
+            _ => random_alias(random),
+        };
+        if source != board.alias && tools.iter().all(|tool| tool.source != source) {
+            tools.push(Tool::new(source));
+        }
+    }
+    tools
+}
+
+/// A sound reception state with some of these tools in it; its free places hold anything.
+pub fn sound_state(random: &mut Random, tools: &[Tool]) -> ffi::Reception {
+    let mut reception = ffi::new_reception();
+    let mut next = 0;
+    for place in &mut reception.places {
+        let held = next < tools.len() && random.once_in(3);
+        *place = ffi::Place {
+            held: Flag::from(held),
+            len: random.byte(),
+            source: random.half(),
+        };
+        if held {
+            place.len = match random.below(4) {
+                0 => random.pick(&[0, 1, 64, 71, 72]),
+                _ => random.between(0, PLACE_BYTES) as u8,
+            };
+            place.source = tools[next].source;
+            next += 1;
+        }
+    }
+    reception
+}
+
+/// Damages a state, so that B7 refuses it.
+pub fn damage_state(random: &mut Random, reception: &mut ffi::Reception) {
+    let index = random.below(PLACES);
+    let other = (index + random.between(1, PLACES - 1)) % PLACES;
+    let source = if reception.places[other].held.get() {
+        reception.places[other].source
+    } else {
+        random.below(0x1000) as u16
+    };
+    let place = &mut reception.places[index];
+    place.held = Flag::from(true);
+    place.len = place.len.min(PLACE_BYTES as u8);
+    match random.below(3) {
+        0 => place.len = random.pick(&[73, 74, 80, 128, 200, 255]),
+        1 => place.source = random.pick(&[0x1000, 0x1001, 0x8000, 0xFFFF, 0x1000 | source]),
+        _ => {
+            place.source = source;
+            let twin = &mut reception.places[other];
+            twin.held = Flag::from(true);
+            twin.len = twin.len.min(PLACE_BYTES as u8);
+            twin.source = source;
+        }
+    }
+}
+
+/// An alias that is good, or one of 16 bits.
+pub fn wide_alias(random: &mut Random) -> u16 {
+    match random.below(8) {
+        0 => random.pick(&[0, 0xFFF, 0x1000, 0x8000, 0xFFFF]),
+        1 => random.half(),
+        _ => random.below(0x1000) as u16,
+    }
+}
+
+/// A line without its newline, mostly a good one or one with a single fault.
+pub fn line(random: &mut Random) -> Vec<u8> {
+    if random.once_in(12) {
+        let length = random.between(0, 80);
+        return random.bytes(length);
+    }
+    let digits: &[u8] = b"0123456789ABCDEF";
+    let mut line = b":X".to_vec();
+    for _ in 0..8 {
+        line.push(random.pick(digits));
+    }
+    line.push(b'N');
+    let count = match random.below(10) {
+        0 => random.between(0, 40),
+        1 => 2 * random.between(8, 10),
+        _ => 2 * random.between(0, 8),
+    };
+    for _ in 0..count {
+        line.push(random.pick(digits));
+    }
+    line.push(b';');
+    if random.once_in(2) {
+        let index = random.below(line.len());
+        match random.below(6) {
+            0 => {
+                line.remove(index);
+            }
+            1 => line.insert(index, random.pick(b"0A;N:X \r\n")),
+            2 => line[index] = random.byte(),
+            3 => line[index] = line[index].to_ascii_lowercase(),
+            4 => line[index] = random.pick(b"/:@G`ag;NX\0"),
+            _ => line.truncate(index),
+        }
+    }
+    line
+}
+
+#[cfg(test)]
+mod tests {
+    use super::*;
+
+    #[test]
+    fn a_good_board_is_good_and_a_damaged_state_is_not() {
+        let mut random = Random::new(3);
+        for _ in 0..2_000 {
+            let board = good_board(&mut random);
+            let checked =
+                model::check_description(&board.for_model(), board.flash_len, board.memory_len);
+            assert_eq!(checked, Ok(()), "{board:?}");
+            let tools = tools(&mut random, &board);
+            let mut state = sound_state(&mut random, &tools);
+            assert_eq!(crate::setup::for_model(&state, &[0; 576]).check(), Ok(()));
+            damage_state(&mut random, &mut state);
+            assert!(crate::setup::for_model(&state, &[0; 576]).check().is_err());
+        }
+    }
+}

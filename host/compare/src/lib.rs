@@ -1,0 +1,12 @@
+//! Holds the parts of the comparison: the library's C edge, random input, and the calls that are
+//! made to the library and to the model and compared.
+
+pub mod answer;
+pub mod ffi;
+pub mod generate;
+pub mod guarded;
+pub mod random;
+pub mod setup;
+pub mod small;
+pub mod tally;
+pub mod world;

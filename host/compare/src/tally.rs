@@ -1,0 +1,294 @@
+//! Holds the counts of the cases that were reached. A comparison that never reaches a case shows
+//! nothing about it, so that a count of zero is a failure.
+
+use crate::answer::Answer;
+use crate::generate::COMMANDS;
+
+macro_rules! cases {
+    ($($(#[$doc:meta])* $name:ident = $text:literal, $here:ident;)*) => {
+        /// A case that has to be reached.
+        #[derive(Clone, Copy, Debug, PartialEq, Eq)]
+        pub enum Case { $($(#[$doc])* $name,)* }
+
+        impl Case {
+            const ALL: &'static [(Self, &'static str, Reach)] =
+                &[$((Self::$name, $text, Reach::$here),)*];
+        }
+    };
+}
+
+/// By which calls a case can be reached.
+#[derive(Clone, Copy, PartialEq, Eq)]
+enum Reach {
+    /// By frames and by whole datagrams.
+    Both,
+    /// By frames alone.
+    Frames,
+    /// By neither: by the smaller calls.
+    Small,
+}
+
+cases! {
+    /// B1.
+    B1 = "B1 refused", Both;
+    /// B2.
+    B2 = "B2 refused", Both;
+    /// B3.
+    B3 = "B3 refused", Both;
+    /// B4.
+    B4 = "B4 refused", Both;
+    /// B5.
+    B5 = "B5 refused", Both;
+    /// B6.
+    B6 = "B6 refused", Both;
+    /// B7.
+    B7 = "B7 refused", Frames;
+    /// Ignored.
+    Ignored = "ignored", Frames;
+    /// Joined and not answered.
+    Nothing = "nothing (joined)", Frames;
+    /// Out of order.
+    OutOfOrder = "0x2040 transport refusal", Frames;
+    /// Too long.
+    TooLong = "0x2000 transport refusal", Frames;
+    /// No room.
+    NoRoom = "0x2020 transport refusal", Frames;
+    /// A bad datagram.
+    Invalid = "0x1080 rejected", Both;
+    /// An unknown command.
+    UnknownCommand = "0x1041 rejected", Both;
+    /// Not of this protocol.
+    UnknownDatagram = "0x1042 rejected", Both;
+    /// A read with all bytes.
+    Read = "read, whole", Both;
+    /// A read cut off at the end.
+    ReadShort = "read, short", Both;
+    /// A failed read.
+    Read1081 = "read fails 0x1081", Both;
+    /// A failed read.
+    Read1082 = "read fails 0x1082", Both;
+    /// A write.
+    Write = "write", Both;
+    /// A failed write.
+    Write1081 = "write fails 0x1081", Both;
+    /// A failed write.
+    Write1083 = "write fails 0x1083", Both;
+    /// A failed write.
+    Write1082 = "write fails 0x1082", Both;
+    /// A masked write.
+    Masked = "masked write", Both;
+    /// A masked write with a mask of zero.
+    MaskedByZero = "masked write, a mask 0", Both;
+    /// A failed masked write.
+    Masked1081 = "masked write fails 0x1081", Both;
+    /// A failed masked write.
+    Masked1083 = "masked write fails 0x1083", Both;
+    /// A failed masked write.
+    Masked1082 = "masked write fails 0x1082", Both;
+    /// 0x80.
+    Options = "options", Both;
+    /// 0x84 of a space from address 0.
+    Information = "information, lowest 0", Both;
+    /// 0x84 of another space.
+    InformationLowest = "information, lowest given", Both;
+    /// 0x84 of no space.
+    InformationAbsent = "information, not described", Both;
+    /// 0x88 taken.
+    LockTaken = "lock, taken", Both;
+    /// 0x88 held by another.
+    LockHeld = "lock, held by another", Both;
+    /// 0x88 released.
+    LockReleased = "lock, released", Both;
+    /// 0xA8.
+    UpdateComplete = "update complete", Both;
+    /// A datagram of several frames.
+    Joined = "datagram finished by a Last", Small;
+    /// A cut datagram in one frame.
+    CutSingle = "cut, one frame", Small;
+    /// A cut datagram in several frames.
+    CutSeveral = "cut, several frames", Small;
+    /// B9.
+    CutB9Length = "cut, B9 over 72 bytes", Small;
+    /// B9.
+    CutB9Alias = "cut, B9 alias over 4,095", Small;
+    /// Received OK.
+    ReceivedOk = "Received OK frame", Small;
+    /// Rejected.
+    Rejected = "Rejected frame", Small;
+    /// No frame.
+    TransportRefused = "transport reply, alias over 4,095", Small;
+    /// A good line.
+    LineGood = "line, good", Small;
+    /// A bad line.
+    LineBad = "line, bad", Small;
+    /// A printed frame.
+    Printed = "frame printed", Small;
+    /// A frame that does not fit.
+    PrintedNot = "frame printed, no room", Small;
+    /// A frame over 8 bytes.
+    PrintedLong = "frame printed, over 8 bytes", Small;
+}
+
+/// How a datagram came.
+#[derive(Clone, Copy, Debug, PartialEq, Eq)]
+pub enum By {
+    /// In frames.
+    Frames,
+    /// Whole.
+    Whole,
+}
+
+/// The counts.
+#[derive(Clone, Debug)]
+pub struct Tally {
+    cases: [Vec<u64>; 2],
+    commands: [[u64; 256]; 2],
+}
+
+impl Default for Tally {
+    fn default() -> Self {
+        Self {
+            cases: [vec![0; Case::ALL.len()], vec![0; Case::ALL.len()]],
+            commands: [[0; 256]; 2],
+        }
+    }
+}
+
+impl Tally {
+    /// Counts a case of the smaller calls.
+    pub fn count(&mut self, case: Case) {
+        self.cases[0][case as usize] += 1;
+    }
+
+    /// Counts the answer of a call, with the finished datagram, if there is one, the lock before
+    /// it and the reply; false where it is not one of document 01.
+    #[must_use]
+    pub fn answer(
+        &mut self,
+        by: By,
+        answer: Answer,
+        datagram: Option<&[u8]>,
+        lock: [u8; 6],
+        reply: &[u8],
+    ) -> bool {
+        let by = by as usize;
+        if let (Some(&[_, command, ..]), Answer::ReceivedOk | Answer::Replied(_)) =
+            (datagram, answer)
+        {
+            self.commands[by][usize::from(command)] += 1;
+        }
+        let datagram = datagram.unwrap_or(&[]);
+        let Some(case) = case_of(answer, datagram, lock, reply) else {
+            return false;
+        };
+        self.cases[by][case as usize] += 1;
+        if case == Case::Masked && masked_by_zero(datagram) {
+            self.cases[by][Case::MaskedByZero as usize] += 1;
+        }
+        true
+    }
+
+    /// Prints the counts; false where one that has to be reached is zero.
+    #[must_use]
+    pub fn print(&self) -> bool {
+        let mut all = true;
+        println!("{:36} {:>12} {:>12}", "case", "frames", "whole");
+        for &(case, name, reach) in Case::ALL {
+            let [frames, whole] = [0, 1].map(|by| self.cases[by][case as usize]);
+            let missing = frames == 0 || (reach == Reach::Both && whole == 0);
+            all &= !missing;
+            let mark = if missing { "  NEVER REACHED" } else { "" };
+            if reach == Reach::Both {
+                println!("{name:36} {frames:12} {whole:12}{mark}");
+            } else {
+                println!("{name:36} {frames:12} {:>12}{mark}", "-");
+            }
+        }
+        for command in COMMANDS {
+            let [frames, whole] = [0, 1].map(|by| self.commands[by][usize::from(command)]);
+            let missing = frames == 0 || whole == 0;
+            all &= !missing;
+            let mark = if missing { "  NEVER REACHED" } else { "" };
+            let name = format!("command 0x{command:02X}, received OK");
+            println!("{name:36} {frames:12} {whole:12}{mark}");
+        }
+        all
+    }
+}
+
+/// The case of an answer; `None` for one that document 01 does not know.
+fn case_of(answer: Answer, datagram: &[u8], lock: [u8; 6], reply: &[u8]) -> Option<Case> {
+    let command = datagram.get(1).copied();
+    Some(match answer {
+        Answer::House(1) => Case::B1,
+        Answer::House(2) => Case::B2,
+        Answer::House(3) => Case::B3,
+        Answer::House(4) => Case::B4,
+        Answer::House(5) => Case::B5,
+        Answer::House(6) => Case::B6,
+        Answer::House(7) => Case::B7,
+        Answer::Ignored => Case::Ignored,
+        Answer::Nothing => Case::Nothing,
+        Answer::TransportRefusal(0x2040) => Case::OutOfOrder,
+        Answer::TransportRefusal(0x2000) => Case::TooLong,
+        Answer::TransportRefusal(0x2020) => Case::NoRoom,
+        Answer::Rejected(0x1080) => Case::Invalid,
+        Answer::Rejected(0x1041) => Case::UnknownCommand,
+        Answer::Rejected(0x1042) => Case::UnknownDatagram,
+        Answer::ReceivedOk => match command? {
+            0x00..=0x03 => Case::Write,
+            0x08..=0x0B => Case::Masked,
+            0xA8 => Case::UpdateComplete,
+            _ => return None,
+        },
+        Answer::Replied(length) => {
+            let reply = reply.get(..length)?;
+            let code = u16::from_be_bytes(*reply.last_chunk()?);
+            match (command?, *reply.get(1)?, code) {
+                (0x40..=0x43, 0x50..=0x53, _) => {
+                    // The head of the reply is as long as that of the request without its count.
+                    let count = usize::from(datagram.last()? & 0x7F);
+                    if length - (datagram.len() - 1) < count {
+                        Case::ReadShort
+                    } else {
+                        Case::Read
+                    }
+                }
+                (0x40..=0x43, 0x58..=0x5B, 0x1081) => Case::Read1081,
+                (0x40..=0x43, 0x58..=0x5B, 0x1082) => Case::Read1082,
+                (0x00..=0x03, 0x18..=0x1B, 0x1081) => Case::Write1081,
+                (0x00..=0x03, 0x18..=0x1B, 0x1083) => Case::Write1083,
+                (0x00..=0x03, 0x18..=0x1B, 0x1082) => Case::Write1082,
+                (0x08..=0x0B, 0x18..=0x1B, 0x1081) => Case::Masked1081,
+                (0x08..=0x0B, 0x18..=0x1B, 0x1083) => Case::Masked1083,
+                (0x08..=0x0B, 0x18..=0x1B, 0x1082) => Case::Masked1082,
+                (0x80, 0x82, _) => Case::Options,
+                (0x84, 0x87, _) if length == 8 => Case::Information,
+                (0x84, 0x87, _) => Case::InformationLowest,
+                (0x84, 0x86, _) => Case::InformationAbsent,
+                (0x88, 0x8A, _) => {
+                    let id = datagram.get(2..)?;
+                    if id == [0; 6] {
+                        Case::LockReleased
+                    } else if lock == [0; 6] {
+                        Case::LockTaken
+                    } else {
+                        Case::LockHeld
+                    }
+                }
+                _ => return None,
+            }
+        }
+        _ => return None,
+    })
+}
+
+fn masked_by_zero(datagram: &[u8]) -> bool {
+    let head = match datagram.get(1) {
+        Some(0x08) => 7,
+        _ => 6,
+    };
+    datagram
+        .get(head..)
+        .is_some_and(|pairs| pairs.iter().step_by(2).any(|&mask| mask == 0))
+}

@@ -1,0 +1,103 @@
+//! Holds a world: a board, the tools that send to it, and calls one after the other, so that
+//! memory, lock and unfinished datagrams have a history.
+
+use crate::answer::Answer;
+use crate::generate::{datagram, good_board, sound_state, tools, Tool};
+use crate::random::Random;
+use crate::setup::Setup;
+use crate::small;
+use crate::tally::Tally;
+
+/// A board and its tools.
+pub struct World {
+    setup: Setup,
+    tools: Vec<Tool>,
+    calls_left: usize,
+}
+
+impl World {
+    /// A new world, to be left after some hundreds of calls.
+    pub fn new(random: &mut Random) -> Self {
+        let board = good_board(random);
+        let tools = tools(random, &board);
+        let reception = if random.once_in(2) {
+            sound_state(random, &tools)
+        } else {
+            crate::ffi::new_reception()
+        };
+        Self {
+            setup: Setup::new(random, board, reception),
+            tools,
+            calls_left: random.between(50, 600),
+        }
+    }
+
+    /// Whether it is time for another world.
+    #[must_use]
+    pub const fn is_over(&self) -> bool {
+        self.calls_left == 0
+    }
+
+    /// Makes one call to both sides; the text says what differs.
+    pub fn call(&mut self, random: &mut Random, tally: &mut Tally) -> Result<(), String> {
+        self.calls_left -= 1;
+        match random.below(100) {
+            0..=54 => {
+                let tool = random.below(self.tools.len());
+                let frame = self.tools[tool].frame(random, self.setup.board());
+                let answer = self.setup.frame(&frame, &buffer(random, false), tally)?;
+                // Some tools go on sending, so that stray frames come too.
+                if matches!(answer, Answer::TransportRefusal(_)) && !random.once_in(4) {
+                    self.tools[tool].give_up();
+                }
+                Ok(())
+            }
+            55..=79 => {
+                let datagram = datagram(random, self.setup.board());
+                self.setup
+                    .datagram(&datagram, &buffer(random, false), tally)
+            }
+            80..=87 => self.spoilt_call(random, tally),
+            88..=90 => small::cut(random, tally),
+            91..=93 => small::transport(random, tally),
+            94..=97 => small::parse(random, tally),
+            _ => small::print(random, tally),
+        }
+    }
+
+    /// A call with something wrong in what it is lent. It is made on a copy, so that the world
+    /// goes on with what it had.
+    fn spoilt_call(&self, random: &mut Random, tally: &mut Tally) -> Result<(), String> {
+        let mut setup = self.setup.clone();
+        let faults = random.between(1, 7);
+        let short = faults & 1 != 0;
+        if faults & 2 != 0 {
+            let times = random.between(1, 3);
+            setup = setup.with_spoilt_board(random, times);
+        }
+        if faults & 4 != 0 {
+            setup = setup.with_damaged_state(random);
+        }
+        if random.once_in(3) {
+            let datagram = datagram(random, self.setup.board());
+            setup.datagram(&datagram, &buffer(random, short), tally)
+        } else {
+            let index = random.below(self.tools.len());
+            let frame = self.tools[index].clone().frame(random, self.setup.board());
+            setup
+                .frame(&frame, &buffer(random, short), tally)
+                .map(|_| ())
+        }
+    }
+}
+
+/// What a reply buffer holds before the call.
+fn buffer(random: &mut Random, short: bool) -> Vec<u8> {
+    let length = match (short, random.below(4)) {
+        (true, 0) => random.pick(&[0, 1, 8, 71]),
+        (true, _) => random.between(0, 71),
+        (false, 0) => random.between(72, 100),
+        (false, _) => 72,
+    };
+    random.bytes(length)
+}
