@@ -120,8 +120,8 @@ static const struct {
     void (*op)(void);
     size_t bound;
 } operations[OPERATIONS] = {
-    {"bujorelm_handle_frame", do_handle_frame, 2048},
-    {"bujorelm_handle_datagram", do_handle_datagram, 1792},
+    {"bujorelm_handle_frame", do_handle_frame, 2560},
+    {"bujorelm_handle_datagram", do_handle_datagram, 2304},
     {"bujorelm_cut", do_cut, 4096},
     {"bujorelm_received_ok, bujorelm_rejected", do_transport, 128},
     {"bujorelm_print_frame", do_print, 256},
