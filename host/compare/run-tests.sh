@@ -7,15 +7,17 @@ cd "$(dirname "$0")/../.."
 
 CARGO_TARGET_DIR="$PWD/target/host-rust"
 export CARGO_TARGET_DIR
-calls=25000000
+calls=20000000
 
 if [ ! -f target/staticlib/libdriver.a ]; then
     echo "host/compare: target/staticlib/libdriver.a is missing" >&2
     exit 1
 fi
 
+# The tests are built without optimisation: that is quicker than running them is slow, and
+# arithmetic that overflows is found.
 for package in model compare; do
-    cargo test --release --offline --quiet --manifest-path "host/$package/Cargo.toml"
+    cargo test --offline --quiet --manifest-path "host/$package/Cargo.toml"
     cargo build --release --offline --quiet --manifest-path "host/$package/Cargo.toml"
 done
 
