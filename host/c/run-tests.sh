@@ -54,9 +54,16 @@ compile library-sanitized "$sanitizers" tests/library.c
 valgrind --quiet --error-exitcode=1 --leak-check=full --errors-for-leak-kinds=all "$out/library" 20000
 
 echo "host/c: the stack"
-# Functions of the C library are found at the start: to find one at its first call takes stack that is not the call's.
-compile stack "-O2 -Wl,-z,now" tests/stack.c
-"$out/stack"
+# The calls are compiled at each level of optimisation, the measuring at one. Functions of the C library are found at the start: to find
+# one at its first call takes stack that is not the call's.
+# shellcheck disable=SC2086
+$CC $c -O2 -I "$here/include" -c "$here/tests/stack.c" -o "$out/stack.o"
+for level in -O0 -O1 -O2 -O3 -Os; do
+    # shellcheck disable=SC2086
+    $CC $c $level -I "$here/include" -c "$here/tests/stack_calls.c" -o "$out/stack_calls.o"
+    $CC -Wl,-z,now "$out/stack.o" "$out/stack_calls.o" "$library" -o "$out/stack"
+    "$out/stack" "$level"
+done
 
 echo "host/c: the example and docs/DRIVER.md"
 compile example "-O2" example/minimal.c

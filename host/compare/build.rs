@@ -1,11 +1,16 @@
-//! Holds where the library is found: `target/staticlib` at the root of the repository.
+//! Holds where the library is found: `target/staticlib` at the root of the repository, or the
+//! directory that `LIBDRIVER` names.
 
 use std::env;
-use std::path::Path;
+use std::path::{Path, PathBuf};
 
 fn main() {
     let package = env::var("CARGO_MANIFEST_DIR").expect("cargo names the package's directory");
-    let directory = Path::new(&package).join("../../target/staticlib");
+    println!("cargo:rerun-if-env-changed=LIBDRIVER");
+    let directory = env::var("LIBDRIVER").map_or_else(
+        |_| Path::new(&package).join("../../target/staticlib"),
+        PathBuf::from,
+    );
     let library = directory.join("libdriver.a");
     assert!(
         library.exists(),

@@ -1,51 +1,25 @@
--- Laws of the fields of a datagram and of its decoding.
+-- Laws of the decoding of a datagram.
 -- Assumes nothing.
-use Prim.Native.Nat.{ℕ, _%_, _/_, _≤_, _<_}
-use mathlib.Core.Path.{_≡_, refl, _∙_}
-use mathlib.Core.Bool.{Bool, true, false, not, _&&_, _||_}
+use Prim.Native.Nat.{ℕ, _-_, _%_, _/_, _≤_, _<_}
+use mathlib.Core.Path.{_≡_, refl, sym, ap, _∙_}
+use mathlib.Core.Bool.{Bool, true, not, _&&_, _||_}
 use mathlib.Core.List.{List, [], _∷_}
+use native.Mathlib.Nat.{add-zero}
 use native.Mathlib.Omega.{arith}
 use lib.Dec.{leb, ltb, eqb}
 use lib.ListN.{length, getD, drop, length-drop}
-use borrow.Author.Tests.{eq-eqb, ne-eqb, lt-ltb, le-ltb, le-leb, lt-leb, leb-true, eqb-true}
+use lib.Seq.{getD-drop}
+use borrow.Author.Tests.{eq-eqb, ne-eqb, lt-ltb, le-ltb, le-leb, leb-true, eqb-true}
 use Rattle.buffer.proofs.Choice.{cond-elim, cond-map, and-left, and-right}
-use Rattle.command.specs.Commands.{Request, read, write, writeMasked, options, information, reserve, updateComplete, pairsOf, within, kindOf, formIn, headLength, spaceOf, addressOf, restOf}
+use Rattle.fields.specs.Commands.{Request, read, write, writeMasked, options, information, reserve, updateComplete, pairsOf, within, kindOf, formIn, headLength, spaceOf, addressOf, restOf}
 use Rattle.command.specs.Decoding.{Reading, rejected, request, orWrong, countOf, decodeRead, decodeWrite, decodeMasked, decodeKind, decode, requestOf, readingOf, fixed}
-use Rattle.command.specs.declared.Form.{Form}
-use Rattle.command.specs.declared.Form.the-variants.{NoSpace}
-use Rattle.command.specs.declared.Kind.{Kind}
-use Rattle.command.specs.declared.Kind.the-variants.{Read, Write, WriteMasked, Options, Information, Lock, UpdateComplete, Unknown}
+use Rattle.fields.specs.declared.Form.{Form}
+use Rattle.fields.specs.declared.Form.the-variants.{NoSpace}
+use Rattle.fields.specs.declared.Kind.{Kind}
+use Rattle.fields.specs.declared.Kind.the-variants.{Read, Write, WriteMasked, Options, Information, Lock, UpdateComplete, Unknown}
 use Rattle.command.specs.declared.Command.{Command}
 use Rattle.command.specs.declared.Decoded.the-variants.{Rejected, Accepted}
-
--- ---- the kind of a command
-
-no : (low high c : ℕ) → (low ≤ c → c ≤ high → ⊥) → within low high c ≡ false
-no low high c f = go (leb low c) refl (leb c high) refl
-  where
-    go : (s : Bool) → leb low c ≡ s → (t : Bool) → leb c high ≡ t → within low high c ≡ false
-    go true p true q = absurd (f (leb-true low c p) (leb-true c high q))
-    go true p false q = rw (p, q)
-    go false p t q = rw p
-
-module _ (c : ℕ) where
-  pub is-read : 0x40 ≤ c → c ≤ 0x43 → kindOf c ≡ Read
-  unfolding kindOf
-  is-read p q = rw (le-leb 0x40 c p, le-leb c 0x43 q)
-
-  pub is-write : c ≤ 0x03 → kindOf c ≡ Write
-  unfolding kindOf
-  is-write q = rw (no 0x40 0x43 c (λ a b. omega arith), le-leb 0 c (omega arith), le-leb c 0x03 q)
-
-  pub is-masked : 0x08 ≤ c → c ≤ 0x0B → kindOf c ≡ WriteMasked
-  unfolding kindOf
-  is-masked p q = rw (no 0x40 0x43 c (λ a b. omega arith), no 0x00 0x03 c (λ a b. omega arith), le-leb 0x08 c p, le-leb c 0x0B q)
-
-  pub is-unknown : (0x40 ≤ c → c ≤ 0x43 → ⊥) → (c ≤ 0x03 → ⊥) → (0x08 ≤ c → c ≤ 0x0B → ⊥) → (c ≡ 0x80 → ⊥) → (c ≡ 0x84 → ⊥) → (c ≡ 0x88 → ⊥) → (c ≡ 0xA8 → ⊥) →
-      kindOf c ≡ Unknown
-  unfolding kindOf
-  is-unknown r w m a b d e =
-      rw (no 0x40 0x43 c r, no 0x00 0x03 c (λ p. w), no 0x08 0x0B c m, ne-eqb c 0x80 a, ne-eqb c 0x84 b, ne-eqb c 0x88 d, ne-eqb c 0xA8 e)
+use Rattle.fields.proofs.Laws.{is-within, not-within, rest-is}
 
 -- The command of a lock is one of those from 0x80 on, which name no space.
 abbrev pub Locks : ℕ → Kind → Type 0
@@ -58,7 +32,7 @@ Locks c Lock = 0x80 ≤ c
 Locks c UpdateComplete = Unit {0}
 Locks c Unknown = Unit {0}
 
-locks : (c : ℕ) → Locks c (kindOf c)
+pub locks : (c : ℕ) → Locks c (kindOf c)
 unfolding kindOf
 locks c =
     cond-elim (Locks c) (within 0x40 0x43 c) (λ _. tt)
@@ -69,68 +43,65 @@ locks c =
     (λ _. cond-elim (Locks c) (eqb c 0x88) (λ e. omega (arith, eqb-true c 0x88 e))
     (λ _. cond-elim (Locks c) (eqb c 0xA8) (λ _. tt) (λ _. tt)))))))
 
-pub locks-of : (k : Kind) (c : ℕ) → k ≡ kindOf c → Locks c k
-locks-of k c e = rw e (locks c)
+-- the kind that the code finds, by the steps of its finding
+pub is-kind : {b c : ℕ} {k m : Kind} → b ≡ c → k ≡ kindOf b → k ≡ m → kindOf c ≡ m
+is-kind e q t = ap kindOf (sym e) ∙ sym q ∙ t
 
 -- ---- the remaining bytes
-
-pub rest-is : (d : List ℕ) → restOf d ≡ drop (headLength (formIn d)) d
-unfolding restOf
-rest-is d = refl
 
 pub rest-lock : (d : List ℕ) → 0x80 ≤ getD d 1 0 → restOf d ≡ drop 2 d
 unfolding restOf
 rest-lock d h = rw (le-leb 0x80 (getD d 1 0) h)
 
--- ---- reads, writes, masked writes, by their remaining bytes
+-- ---- reads, writes, masked writes, by their form and the length of their head
 
-module _ (d : List ℕ) {rest : List ℕ} (q : rest ≡ restOf d) where
-  pub read-length : (length rest ≡ 1 → ⊥) → rejected 0x1080 ≡ decodeRead d
+module _ (d : List ℕ) {f : Form} {head : ℕ} (p : f ≡ formIn d) (q : head ≡ headLength f) where
+  -- how many bytes remain
+  abbrev n : ℕ
+  n = length d - head
+
+  size : n ≡ length (restOf d)
+  size = rw (rest-is d, length-drop, ← p, ← q)
+
+  pub read-length : (n ≡ 1 → ⊥) → rejected 0x1080 ≡ decodeRead d
   unfolding decodeRead
-  read-length n = rw (← q, ne-eqb (length rest) 1 n)
+  read-length e = rw (← size, ne-eqb n 1 e)
 
-  pub read-none : length rest ≡ 1 → getD rest 0 0 % 128 ≡ 0 → rejected 0x1080 ≡ decodeRead d
-  unfolding decodeRead
-  read-none e z = rw (← q, eq-eqb (length rest) 1 e, lt-leb 1 (getD rest 0 0 % 128) (omega arith))
+  module _ (e : n ≡ 1) where
+    abbrev count : ℕ
+    count = getD d head 0 % 128
 
-  pub read-many : length rest ≡ 1 → (getD rest 0 0 % 128 ≡ 0 → ⊥) → 64 < getD rest 0 0 % 128 → rejected 0x1080 ≡ decodeRead d
-  unfolding decodeRead
-  read-many e z m = rw (← q, eq-eqb (length rest) 1 e, le-leb 1 (getD rest 0 0 % 128) (omega (arith, z)), lt-leb (getD rest 0 0 % 128) 64 m)
+    first-is : getD d head 0 ≡ getD (restOf d) 0 0
+    first-is = rw (rest-is d, ← p, ← q, getD-drop, add-zero)
 
-  pub read-right : length rest ≡ 1 → (getD rest 0 0 % 128 ≡ 0 → ⊥) → getD rest 0 0 % 128 ≤ 64 →
-      request (formIn d) (read (spaceOf (formIn d) d) (addressOf d) (getD rest 0 0 % 128)) ≡ decodeRead d
-  unfolding decodeRead
-  read-right e z m = rw (← q, eq-eqb (length rest) 1 e, le-leb 1 (getD rest 0 0 % 128) (omega (arith, z)), le-leb (getD rest 0 0 % 128) 64 m)
+    pub read-count : (1 ≤ count → count ≤ 64 → ⊥) → rejected 0x1080 ≡ decodeRead d
+    unfolding decodeRead
+    read-count t = rw (← size, eq-eqb n 1 e, ← first-is, not-within 1 64 count t)
 
-  pub write-none : length rest ≡ 0 → rejected 0x1080 ≡ decodeWrite d
+    pub read-right : 1 ≤ count → count ≤ 64 → request f (read (spaceOf (formIn d) d) (addressOf d) count) ≡ decodeRead d
+    unfolding decodeRead
+    read-right l h = rw (← p, ← size, eq-eqb n 1 e, ← first-is, is-within 1 64 count l h)
+
+  pub write-length : (1 ≤ n → n ≤ 64 → ⊥) → rejected 0x1080 ≡ decodeWrite d
   unfolding decodeWrite
-  write-none e = rw (← q, lt-leb 1 (length rest) (omega arith))
+  write-length t = rw (← size, not-within 1 64 n t)
 
-  pub masked-none : length rest ≡ 0 → rejected 0x1080 ≡ decodeMasked d
+  pub masked-length : (1 ≤ n → n ≤ 64 → ⊥) → rejected 0x1080 ≡ decodeMasked d
   unfolding decodeMasked
-  masked-none e = rw (← q, lt-leb 1 (length rest) (omega arith))
+  masked-length t = rw (← size, not-within 1 64 n t)
 
-  module _ (z : length rest ≡ 0 → ⊥) where
-    pub write-many : 64 < length rest → rejected 0x1080 ≡ decodeWrite d
+  module _ (l : 1 ≤ n) (h : n ≤ 64) where
+    pub write-right : request f (write (spaceOf (formIn d) d) (addressOf d) (restOf d)) ≡ decodeWrite d
     unfolding decodeWrite
-    write-many m = rw (← q, le-leb 1 (length rest) (omega (arith, z)), lt-leb (length rest) 64 m)
+    write-right = rw (← p, ← size, is-within 1 64 n l h)
 
-    pub write-right : length rest ≤ 64 → request (formIn d) (write (spaceOf (formIn d) d) (addressOf d) (restOf d)) ≡ decodeWrite d
-    unfolding decodeWrite
-    write-right m = rw (← q, le-leb 1 (length rest) (omega (arith, z)), le-leb (length rest) 64 m)
-
-    pub masked-many : 64 < length rest → rejected 0x1080 ≡ decodeMasked d
+    pub masked-odd : (n % 2 ≡ 0 → ⊥) → rejected 0x1080 ≡ decodeMasked d
     unfolding decodeMasked
-    masked-many m = rw (← q, le-leb 1 (length rest) (omega (arith, z)), lt-leb (length rest) 64 m)
+    masked-odd o = rw (← size, is-within 1 64 n l h, ne-eqb (n % 2) 0 o)
 
-    module _ (m : length rest ≤ 64) where
-      pub masked-odd : (length rest % 2 ≡ 0 → ⊥) → rejected 0x1080 ≡ decodeMasked d
-      unfolding decodeMasked
-      masked-odd o = rw (← q, le-leb 1 (length rest) (omega (arith, z)), le-leb (length rest) 64 m, ne-eqb (length rest % 2) 0 o)
-
-      pub masked-right : length rest % 2 ≡ 0 → request (formIn d) (writeMasked (spaceOf (formIn d) d) (addressOf d) (pairsOf (restOf d))) ≡ decodeMasked d
-      unfolding decodeMasked
-      masked-right o = rw (← q, le-leb 1 (length rest) (omega (arith, z)), le-leb (length rest) 64 m, eq-eqb (length rest % 2) 0 o)
+    pub masked-right : n % 2 ≡ 0 → request f (writeMasked (spaceOf (formIn d) d) (addressOf d) (pairsOf (restOf d))) ≡ decodeMasked d
+    unfolding decodeMasked
+    masked-right o = rw (← p, ← size, is-within 1 64 n l h, eq-eqb (n % 2) 0 o)
 
 -- a command of a fixed length
 pub fixed-reads : (n : ℕ) (d : List ℕ) (c : Command) → readingOf (fixed n d c) d ≡ orWrong (eqb (length d) n) (request NoSpace (requestOf c (restOf d)))
@@ -158,9 +129,9 @@ module _ (d : List ℕ) where
         unfolding decode
         decode-bare o = rw (ne-eqb (length d) 0 z, le-ltb 72 (length d) s, eq-eqb (getD d 0 0) 0x20 t, eq-eqb (length d) 1 o)
 
-        pub decode-command : (length d ≡ 1 → ⊥) → {k : Kind} → k ≡ kindOf (getD d 1 0) → decodeKind k d ≡ decode d
+        pub decode-command : (length d ≡ 1 → ⊥) → decodeKind (kindOf (getD d 1 0)) d ≡ decode d
         unfolding decode
-        decode-command o {k} e = rw (ne-eqb (length d) 0 z, le-ltb 72 (length d) s, eq-eqb (getD d 0 0) 0x20 t, ne-eqb (length d) 1 o, ← e)
+        decode-command o = rw (ne-eqb (length d) 0 z, le-ltb 72 (length d) s, eq-eqb (getD d 0 0) 0x20 t, ne-eqb (length d) 1 o)
 
 -- ---- what holds of every request that a datagram can make
 
@@ -186,18 +157,17 @@ pairs-length (m ∷ v ∷ more) = let ih = pairs-length more in omega arith
 orWrong-allowed : (t : Bool) (f : Form) (q : Request) → (t ≡ true → Allowed q) → AllowedIn (orWrong t (request f q))
 orWrong-allowed t f q g = cond-elim AllowedIn t g (λ _. tt)
 
+within-true : (low high c : ℕ) → within low high c ≡ true → (low ≤ c) × (c ≤ high)
+within-true low high c e = (leb-true low c (and-left (leb low c) _ e), leb-true c high (and-right (leb low c) _ e))
+
 kind-allowed : (k : Kind) (d : List ℕ) → AllowedIn (decodeKind k d)
 unfolding decodeKind decodeRead decodeWrite decodeMasked
-kind-allowed Read d = orWrong-allowed (eqb (length (restOf d)) 1 && (leb 1 (countOf d) && leb (countOf d) 64)) _ (read (spaceOf (formIn d) d) (addressOf d) (countOf d)) (λ e.
-    let r = and-right (eqb (length (restOf d)) 1) _ e in
-    (leb-true 1 (countOf d) (and-left (leb 1 (countOf d)) _ r), leb-true (countOf d) 64 (and-right (leb 1 (countOf d)) _ r)))
-kind-allowed Write d = orWrong-allowed (leb 1 (length (restOf d)) && leb (length (restOf d)) 64) _ (write (spaceOf (formIn d) d) (addressOf d) (restOf d)) (λ e.
-    (leb-true 1 (length (restOf d)) (and-left (leb 1 (length (restOf d))) _ e), leb-true (length (restOf d)) 64 (and-right (leb 1 (length (restOf d))) _ e)))
-kind-allowed WriteMasked d = orWrong-allowed (leb 1 (length (restOf d)) && (leb (length (restOf d)) 64 && eqb (length (restOf d) % 2) 0)) _ (writeMasked (spaceOf (formIn d) d) (addressOf d) (pairsOf (restOf d))) (λ e.
-    let p = leb-true 1 (length (restOf d)) (and-left (leb 1 (length (restOf d))) _ e) in
-    let r = and-right (leb 1 (length (restOf d))) _ e in
-    let m = leb-true (length (restOf d)) 64 (and-left (leb (length (restOf d)) 64) _ r) in
-    let o = eqb-true (length (restOf d) % 2) 0 (and-right (leb (length (restOf d)) 64) _ r) in
+kind-allowed Read d = orWrong-allowed (eqb (length (restOf d)) 1 && within 1 64 (countOf d)) _ (read (spaceOf (formIn d) d) (addressOf d) (countOf d)) (λ e.
+    within-true 1 64 (countOf d) (and-right (eqb (length (restOf d)) 1) _ e))
+kind-allowed Write d = orWrong-allowed (within 1 64 (length (restOf d))) _ (write (spaceOf (formIn d) d) (addressOf d) (restOf d)) (λ e. within-true 1 64 (length (restOf d)) e)
+kind-allowed WriteMasked d = orWrong-allowed (within 1 64 (length (restOf d)) && eqb (length (restOf d) % 2) 0) _ (writeMasked (spaceOf (formIn d) d) (addressOf d) (pairsOf (restOf d))) (λ e.
+    let w = within-true 1 64 (length (restOf d)) (and-left (within 1 64 (length (restOf d))) _ e) in
+    let o = eqb-true (length (restOf d) % 2) 0 (and-right (within 1 64 (length (restOf d))) _ e) in
     let n = pairs-length (restOf d) in
     (omega arith, omega arith))
 kind-allowed Options d = orWrong-allowed (eqb (length d) 2) NoSpace options (λ _. tt)

@@ -1,14 +1,14 @@
 -- Document 01, "Refused because of the input", the codes sent as Rejected, in their order; and what a datagram asks for where none applies.
 use Prim.Native.Nat.{ℕ, _%_}
-use mathlib.Core.Bool.{Bool, true, false, cond, not, _&&_, _||_}
-use mathlib.Core.List.{List, [], _∷_}
-use lib.Dec.{leb, ltb, eqb}
+use mathlib.Core.Bool.{Bool, cond, not, _&&_, _||_}
+use mathlib.Core.List.{List}
+use lib.Dec.{ltb, eqb}
 use lib.ListN.{length, getD, drop}
-use Rattle.command.specs.Commands.{Request, read, write, writeMasked, options, information, reserve, updateComplete, pairsOf, kindOf, formIn, spaceOf, addressOf, restOf}
-use Rattle.command.specs.declared.Form.{Form}
-use Rattle.command.specs.declared.Form.the-variants.{NoSpace}
-use Rattle.command.specs.declared.Kind.{Kind}
-use Rattle.command.specs.declared.Kind.the-variants.{Read, Write, WriteMasked, Options, Information, Lock, UpdateComplete, Unknown}
+use Rattle.fields.specs.Commands.{Request, read, write, writeMasked, options, information, reserve, updateComplete, pairsOf, within, kindOf, formIn, spaceOf, addressOf, restOf}
+use Rattle.fields.specs.declared.Form.{Form}
+use Rattle.fields.specs.declared.Form.the-variants.{NoSpace}
+use Rattle.fields.specs.declared.Kind.{Kind}
+use Rattle.fields.specs.declared.Kind.the-variants.{Read, Write, WriteMasked, Options, Information, Lock, UpdateComplete, Unknown}
 use Rattle.command.specs.declared.Command.{Command}
 use Rattle.command.specs.declared.Command.the-variants as command
 use Rattle.command.specs.declared.Decoded.{Decoded}
@@ -29,19 +29,19 @@ countOf d = getD (restOf d) 0 0 % 128
 
 unfoldable pub decodeRead : List ℕ → Reading
 decodeRead d =
-    orWrong (eqb (length (restOf d)) 1 && (leb 1 (countOf d) && leb (countOf d) 64))
+    orWrong (eqb (length (restOf d)) 1 && within 1 64 (countOf d))
     (request (formIn d) (read (spaceOf (formIn d) d) (addressOf d) (countOf d)))
 
 -- "1–64 data bytes"
 unfoldable pub decodeWrite : List ℕ → Reading
 decodeWrite d =
-    orWrong (leb 1 (length (restOf d)) && leb (length (restOf d)) 64)
+    orWrong (within 1 64 (length (restOf d)))
     (request (formIn d) (write (spaceOf (formIn d) d) (addressOf d) (restOf d)))
 
--- "1–32 pairs (mask, data)"
+-- "1–32 pairs (mask, data)": so many times two bytes, and no mask without its data.
 unfoldable pub decodeMasked : List ℕ → Reading
 decodeMasked d =
-    orWrong (leb 1 (length (restOf d)) && (leb (length (restOf d)) 64 && eqb (length (restOf d) % 2) 0))
+    orWrong (within 1 64 (length (restOf d)) && eqb (length (restOf d) % 2) 0)
     (request (formIn d) (writeMasked (spaceOf (formIn d) d) (addressOf d) (pairsOf (restOf d))))
 
 -- "0x80, two bytes long", "0x84, three bytes", "0x88, eight bytes", "0xA8, two bytes"; "0x1041 unknown command"

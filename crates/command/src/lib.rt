@@ -1,31 +1,10 @@
 // A datagram read as a request, apart from any board.
-mod fields;
-mod view;
-
+use fields::Form;
+use fields::Kind;
 ghost use mathlib.Core.Path.{_≡_};
-ghost use Rattle.command.specs.Commands.{restOf};
-ghost use Rattle.command.specs.Decoding.{decode, readingOf};
-
-// Where a command names its space: nowhere, in byte 6, or by the low two bits 1, 2, 3 of byte 1.
-pub enum Form {
-    NoSpace,
-    Byte6,
-    Fd,
-    Fe,
-    Ff,
-}
-
-// The kinds of commands, by byte 1.
-pub enum Kind {
-    Read,
-    Write,
-    WriteMasked,
-    Options,
-    Information,
-    Lock,
-    UpdateComplete,
-    Unknown,
-}
+ghost use lib.ListN.{getD};
+ghost use Rattle.fields.specs.Commands.{kindOf};
+ghost use Rattle.command.specs.Decoding.{decode, readingOf, decodeKind, decodeRead, decodeWrite, decodeMasked, fixed};
 
 // A command with its numbers. The bytes to write, the pairs and the lock's ID stay in the datagram: they are its remaining bytes.
 pub enum Command {
@@ -44,11 +23,114 @@ pub enum Decoded {
     Accepted(Form, Command),
 }
 
-// The remaining bytes of a datagram: those behind its command, address and space byte.
-pub fn rest(datagram: &[u8]) -> &[u8]
-    ensures { λ r. ⌜ now r ≡ restOf (now (datagram .entry)) ⌝ }
+// A read: exactly one count byte, 1 to 64 without its top bit. Here and in the next two the length is tested before the view is
+// asked: a datagram that is longer than its head has every byte that the view reads, and no test for a missing one is left.
+fn decode_read(datagram: &[u8]) -> Decoded
+    ensures { λ r. ⌜ readingOf r (now (datagram .entry)) ≡ decodeRead (now (datagram .entry)) ⌝ }
 {
-    view::remaining(view::view_of(datagram))
+    let form = fields::form_in(datagram);
+    let head = fields::head_length(form);
+    if datagram.len() <= head {
+        return Decoded::Rejected(0x1080);
+    }
+    if 1 < datagram.len() - head {
+        return Decoded::Rejected(0x1080);
+    }
+    let count = datagram[head] % 128;
+    if count == 0 {
+        return Decoded::Rejected(0x1080);
+    }
+    if 64 < count {
+        return Decoded::Rejected(0x1080);
+    }
+    let target = fields::target_of(datagram);
+    let command = Command::Read {
+        space: target.space,
+        address: target.address,
+        count: count,
+    };
+    Decoded::Accepted(form, command)
+}
+
+// A write: 1 to 64 bytes.
+fn decode_write(datagram: &[u8]) -> Decoded
+    ensures { λ r. ⌜ readingOf r (now (datagram .entry)) ≡ decodeWrite (now (datagram .entry)) ⌝ }
+{
+    let form = fields::form_in(datagram);
+    let head = fields::head_length(form);
+    if datagram.len() <= head {
+        return Decoded::Rejected(0x1080);
+    }
+    if 64 < datagram.len() - head {
+        return Decoded::Rejected(0x1080);
+    }
+    let target = fields::target_of(datagram);
+    let command = Command::Write {
+        space: target.space,
+        address: target.address,
+    };
+    Decoded::Accepted(form, command)
+}
+
+// A masked write: 1 to 32 pairs, of two bytes each.
+fn decode_masked(datagram: &[u8]) -> Decoded
+    ensures { λ r. ⌜ readingOf r (now (datagram .entry)) ≡ decodeMasked (now (datagram .entry)) ⌝ }
+{
+    let form = fields::form_in(datagram);
+    let head = fields::head_length(form);
+    if datagram.len() <= head {
+        return Decoded::Rejected(0x1080);
+    }
+    let length = datagram.len() - head;
+    if 64 < length {
+        return Decoded::Rejected(0x1080);
+    }
+    if length % 2 != 0 {
+        return Decoded::Rejected(0x1080);
+    }
+    let target = fields::target_of(datagram);
+    let command = Command::WriteMasked {
+        space: target.space,
+        address: target.address,
+    };
+    Decoded::Accepted(form, command)
+}
+
+// A command of a fixed length.
+fn of_length(datagram: &[u8], length: usize, command: Command) -> Decoded
+    ensures { λ r. ⌜ r ≡ fixed length (now (datagram .entry)) command ⌝ }
+{
+    if datagram.len() != length {
+        return Decoded::Rejected(0x1080);
+    }
+    Decoded::Accepted(Form::NoSpace, command)
+}
+
+// Space information: three bytes, the last the space's number.
+fn decode_information(datagram: &[u8]) -> Decoded
+    ensures { λ r. ⌜ r ≡ fixed 3 (now (datagram .entry)) (Command.Information (getD (now (datagram .entry)) 2 0)) ⌝ }
+{
+    if datagram.len() != 3 {
+        return Decoded::Rejected(0x1080);
+    }
+    let space = datagram[2];
+    Decoded::Accepted(Form::NoSpace, Command::Information { space: space })
+}
+
+// A datagram by the kind of its command.
+fn decode_kind(datagram: &[u8]) -> Decoded
+    ensures { λ r. ⌜ readingOf r (now (datagram .entry)) ≡ decodeKind (kindOf (getD (now (datagram .entry)) 1 0)) (now (datagram .entry)) ⌝ }
+{
+    match fields::kind_of(fields::command_in(datagram)) {
+        Kind::Read => decode_read(datagram),
+        Kind::Write => decode_write(datagram),
+        Kind::WriteMasked => decode_masked(datagram),
+        Kind::Options => of_length(datagram, 2, Command::Options),
+        Kind::Information => decode_information(datagram),
+        Kind::Lock => of_length(datagram, 8, Command::Lock),
+        Kind::UpdateComplete => of_length(datagram, 2, Command::UpdateComplete),
+        Kind::Unknown => Decoded::Rejected(0x1041),
+    }
 }
 
 // Reads a datagram that was handed over whole.
@@ -67,6 +149,5 @@ pub fn decode(datagram: &[u8]) -> Decoded
     if datagram.len() == 1 {
         return Decoded::Rejected(0x1080);
     }
-    let kind = fields::kind_of(fields::command_in(datagram));
-    fields::decode_kind(datagram, kind)
+    decode_kind(datagram)
 }

@@ -7,9 +7,9 @@ use native.Mathlib.Omega.{arith}
 use lib.Dec.{ltb}
 use lib.ListN.{length, drop}
 use Rattle.buffer.proofs.Choice.{cond-elim}
-use Rattle.gridconnect.specs.Input.{nextOf, untilNewline}
-use Rattle.gridconnect.specs.declared.Carry.{Carry}
-use Rattle.gridconnect.specs.declared.Next.{Next}
+use Rattle.lines.specs.Input.{nextOf, untilNewline}
+use Rattle.lines.specs.declared.Carry.{Carry}
+use Rattle.lines.specs.declared.Next.{Next}
 
 pub goes-on : (carry : Carry) (chunk : List ℕ) (from : ℕ) → from < length chunk → {next : Next} → next ≡ nextOf carry chunk from → from < next .at
 unfolding nextOf

@@ -1,17 +1,31 @@
--- Document 01's proved cases: computed from the definitions.
+-- Document 01's proved cases, and the spaces of the board's table: computed from the definitions.
 -- Assumes nothing.
-use mathlib.Core.Path.{_≡_, refl}
+use mathlib.Core.Path.{_≡_, refl, ap, _∙_}
 use mathlib.Core.List.{List, map}
-use lib.ListN.{length}
+use Prim.Native.Nat.{ℕ}
+use lib.ListN.{length, replicate}
 use Rattle.board.specs.Description.{findSpace}
-use Rattle.board.specs.HouseNumbers.{among, spacesHouse, descriptionHouse}
-use Rattle.board.specs.declared.HouseNumber.the-variants.{Good}
-use Rattle.command.specs.Commands.{kindOf, restOf}
+use Rattle.board.specs.Table.{rowAt, spacesFrom, spacesIn}
+use Rattle.house.specs.HouseNumbers.{among, spacesHouse, descriptionHouse}
+use Rattle.house.specs.declared.HouseNumber.the-variants.{Good}
+use Rattle.fields.specs.Commands.{kindOf, restOf}
 use Rattle.command.specs.Decoding.{decodeRead, decodeWrite, decodeMasked, decodeKind, decode}
-use Rattle.node.specs.Performing.{Outcome, outcome, replyHead, informationReply, perform, handle}
-use Rattle.demonstration.specs.Board.{demoDescription, demoFlash, demoMemory, demoFixed, demoContents}
+use Rattle.buffer.specs.Buffer.{putAt, placed}
+use Rattle.reply.specs.Replies.{replyHead, informationReply}
+use Rattle.access.specs.Access.{readResult, writeResult, memoryAfter}
+use Rattle.handler.specs.Performing.{Outcome, outcome, perform, handle}
+use Rattle.demonstration.specs.Board.{rowOf, demoSpaces, demoFlash, demoMemory, demoFixed, demoContents}
 use Rattle.demonstration.specs.Cases.{cases, ProvedCases}
 
 pub proved-cases : ProvedCases
-unfolding descriptionHouse spacesHouse among findSpace kindOf restOf decodeRead decodeWrite decodeMasked decodeKind decode replyHead informationReply perform handle
+unfolding descriptionHouse spacesHouse among findSpace kindOf restOf decodeRead decodeWrite decodeMasked decodeKind decode putAt placed replyHead informationReply readResult writeResult memoryAfter perform handle
 proved-cases = record { good = refl; answered = refl }
+
+-- the four rows put into the table, one after the other
+pub four-rows : {a b c d w x y z : List ℕ} → a ≡ rowOf 0xFD 0 0 0 0x1F 0 → b ≡ rowOf 0xFE 0 0 0 0x2F 0 → c ≡ rowOf 0xFF 1 1 0 0xF 0 → d ≡ rowOf 0x10 0 0 0x100 0x10F 32 →
+    w ≡ placed 0 a (replicate 64 0) → x ≡ placed 16 b w → y ≡ placed 32 c x → z ≡ placed 48 d y → spacesIn z ≡ demoSpaces
+unfolding rowAt spacesFrom putAt placed
+four-rows {a} {b} {c} {d} {w} {x} {y} {z} p q r s e f g h =
+    let t : z ≡ placed 48 (rowOf 0x10 0 0 0x100 0x10F 32) (placed 32 (rowOf 0xFF 1 1 0 0xF 0) (placed 16 (rowOf 0xFE 0 0 0 0x2F 0) (placed 0 (rowOf 0xFD 0 0 0 0x1F 0) (replicate 64 0)))) =
+    h ∙ rw (s, g, r, f, q, e, p) in
+    ap spacesIn t ∙ refl

@@ -3,10 +3,11 @@ use Prim.Native.Nat.{ℕ}
 use mathlib.Core.Path.{_≡_}
 use mathlib.Core.List.{List, [], _∷_, _++_, map}
 use lib.ListN.{length, replicate}
-use Rattle.board.specs.HouseNumbers.{descriptionHouse}
-use Rattle.board.specs.declared.HouseNumber.the-variants.{Good}
-use Rattle.node.specs.Performing.{Result, datagramRejected, receivedOk, receivedOkReply, Outcome, outcome, handle}
-use Rattle.demonstration.specs.Board.{demoDescription, demoFlash, demoMemory, demoFixed, demoContents}
+use Rattle.house.specs.HouseNumbers.{descriptionHouse}
+use Rattle.house.specs.declared.HouseNumber.the-variants.{Good}
+use Rattle.reply.specs.Answers.{Result, datagramRejected, receivedOkReply}
+use Rattle.handler.specs.Performing.{Outcome, outcome, handle}
+use Rattle.demonstration.specs.Board.{demoAlias, demoSpaces, demoFlash, demoMemory, demoFixed, demoContents}
 
 -- A datagram, and how it is answered.
 pub record Case : Type 0 where
@@ -36,5 +37,5 @@ cases =
 -- No house number refuses the demonstration board; and each of the cases, on a fresh one, is answered so and leaves memory and lock as
 -- they were.
 pub record ProvedCases : Type 0 where
-  pub good : descriptionHouse demoDescription (length demoFlash) (length demoMemory) ≡ Good
+  pub good : descriptionHouse demoAlias demoSpaces (length demoFlash) (length demoMemory) ≡ Good
   pub answered : map (λ c. handle demoFixed demoContents (c .sent)) cases ≡ map (λ c. outcome (c .result) demoContents) cases

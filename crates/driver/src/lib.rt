@@ -1,21 +1,22 @@
-// The edge to C: what a CAN driver calls. Structs go by value, a slice is a pointer and then a length, and every answer is numbers.
-use board::Description;
-use datagram::Cut;
-use datagram::Reception;
-use datagram::TransportReply;
+// The edge to C: what a CAN driver calls. Everything is lent: a slice is a pointer and then a length, an array of a fixed length is a
+// pointer. Every answer is numbers.
 use frame::Frame;
 use gridconnect::Parsed;
 
 mod flat;
 
 ghost use mathlib.Core.Path.{_≡_};
+ghost use lib.ListN.{length};
+ghost use Rattle.buffer.specs.Buffer.{over};
 ghost use Rattle.frame.specs.Frame.{canFrame};
-ghost use Rattle.datagram.specs.Reception.{emptyPlaces, state};
-ghost use Rattle.datagram.specs.Cutting.{cutOf};
-ghost use Rattle.datagram.specs.Transport.{receivedOk, rejectedWith};
-ghost use Rattle.node.specs.Performing.{fixed, contents};
-ghost use Rattle.node.specs.Datagram.{datagramCall};
-ghost use Rattle.node.specs.Frames.{frameCall};
+ghost use Rattle.frame.specs.Layout.{framesBytes};
+ghost use Rattle.board.specs.Table.{spacesIn};
+ghost use Rattle.reception.specs.PlaceBytes.{stateIn};
+ghost use Rattle.cutting.specs.Cutting.{cutFrames};
+ghost use Rattle.cutting.specs.Transport.{receivedOk, rejectedWith};
+ghost use Rattle.handler.specs.Performing.{fixed, contents};
+ghost use Rattle.handler.specs.Datagram.{datagramCall};
+ghost use Rattle.node.specs.Frames.{frameCall, Keeps};
 ghost use Rattle.gridconnect.specs.Line.{parseOf, frameText, Printed};
 ghost use Rattle.driver.specs.Numbers.{DatagramReturns, FrameReturns};
 
@@ -31,114 +32,102 @@ pub struct Numbers {
     pub reply_len: usize,
 }
 
-// The lock memory.
-#[repr(C)]
-pub struct Lock {
-    pub bytes: [u8; 6],
-}
-
-#[repr(C)]
-pub struct DatagramReturn {
-    pub answer: Numbers,
-    pub lock: Lock,
-}
-
-#[repr(C)]
-pub struct FrameReturn {
-    pub answer: Numbers,
-    pub reception: Reception,
-    pub lock: Lock,
-}
-
-// The reception state at the start.
-#[no_mangle]
-pub extern "C" fn bujorelm_new_reception() -> Reception
-    ensures { λ r. ⌜ r .places ≡ emptyPlaces ⌝ }
-{
-    datagram::new_reception()
-}
-
-// Handles a frame from the bus.
+// Handles a frame from the bus. The spaces are a table of 16 bytes each, the places 8 bytes each.
 #[no_mangle]
 pub extern "C" fn bujorelm_handle_frame(
-    description: Description,
+    alias: u16,
+    write_lengths: u8,
+    spaces: &[u8],
     flash: &[u8],
     memory: &mut [u8],
-    lock: Lock,
+    lock: &mut [u8; 6],
     pool: &mut [u8; 576],
-    reception: Reception,
+    places: &mut [u8; 64],
     header: u32,
     payload: &[u8],
     reply: &mut [u8],
-) -> FrameReturn
-    ensures { λ r. ⌜ FrameReturns (frameCall (fixed description (now (flash .entry))) (now (reply .entry)) (state (reception .places) (now (pool .entry))) (contents (now (memory .entry)) (lock .bytes)) (canFrame header (now (payload .entry)))) r (now (reply .entry)) (now (pool .exit)) (now (memory .exit)) (now (reply .exit)) ⌝ }
+) -> Numbers
+    ensures returns { λ r. ⌜ FrameReturns (frameCall (fixed alias «write_lengths» (spacesIn (now (spaces .entry))) (now (flash .entry))) (now (reply .entry)) (stateIn (now (places .entry)) (now (pool .entry))) (contents (now (memory .entry)) (now (lock .entry))) (canFrame header (now (payload .entry)))) r (now (reply .entry)) (now (reply .exit)) (now (memory .exit)) (now (lock .exit)) ⌝ }
+    ensures keeps { λ _. ⌜ Keeps (frameCall (fixed alias «write_lengths» (spacesIn (now (spaces .entry))) (now (flash .entry))) (now (reply .entry)) (stateIn (now (places .entry)) (now (pool .entry))) (contents (now (memory .entry)) (now (lock .entry))) (canFrame header (now (payload .entry)))) (now (places .entry)) (now (places .exit)) (now (pool .exit)) ⌝ }
 {
-    let held = lock.bytes;
-    let done = node::handle_frame(
-        description,
+    let answer = node::handle_frame(
+        alias,
+        write_lengths,
+        spaces,
         flash,
         memory,
-        held,
+        lock,
         pool,
-        reception,
+        places,
         header,
         payload,
         reply,
     );
-    let answer = done.answer;
-    let joined = done.reception;
-    let left = done.lock;
-    FrameReturn {
-        answer: flat::of_frame(answer),
-        reception: joined,
-        lock: Lock { bytes: left },
-    }
+    flat::of_frame(answer)
 }
 
 // Handles a datagram that is handed over whole.
 #[no_mangle]
 pub extern "C" fn bujorelm_handle_datagram(
-    description: Description,
+    alias: u16,
+    write_lengths: u8,
+    spaces: &[u8],
     flash: &[u8],
     memory: &mut [u8],
-    lock: Lock,
+    lock: &mut [u8; 6],
     datagram: &[u8],
     reply: &mut [u8],
-) -> DatagramReturn
-    ensures { λ r. ⌜ DatagramReturns (datagramCall (fixed description (now (flash .entry))) (contents (now (memory .entry)) (lock .bytes)) (now (datagram .entry)) (now (reply .entry))) r (now (reply .exit)) (now (memory .exit)) ⌝ }
+) -> Numbers
+    ensures { λ r. ⌜ DatagramReturns (datagramCall (fixed alias «write_lengths» (spacesIn (now (spaces .entry))) (now (flash .entry))) (contents (now (memory .entry)) (now (lock .entry))) (now (datagram .entry)) (now (reply .entry))) r (now (reply .exit)) (now (memory .exit)) (now (lock .exit)) ⌝ }
 {
-    let held = lock.bytes;
-    let done = node::handle_datagram(description, flash, memory, held, datagram, reply);
-    let handled = done.handled;
-    let left = done.lock;
-    DatagramReturn {
-        answer: flat::of_handled(handled),
-        lock: Lock { bytes: left },
-    }
+    let handled = handler::handle_datagram(
+        alias,
+        write_lengths,
+        spaces,
+        flash,
+        memory,
+        lock,
+        datagram,
+        reply,
+    );
+    flat::of_handled(handled)
 }
 
-// Cuts a reply into frames.
+// Cuts a reply into frames, 16 bytes each, and gives their number; 0 where B9 refuses it.
 #[no_mangle]
-pub extern "C" fn bujorelm_cut(datagram: &[u8], destination: u16, source: u16) -> Cut
-    ensures { λ r. ⌜ r ≡ cutOf (now (datagram .entry)) destination source ⌝ }
+pub extern "C" fn bujorelm_cut(
+    datagram: &[u8],
+    destination: u16,
+    source: u16,
+    frames: &mut [u8; 144],
+) -> usize
+    ensures count { λ r. ⌜ r ≡ length (cutFrames (now (datagram .entry)) destination source) ⌝ }
+    ensures bytes { λ _. ⌜ now (frames .exit) ≡ over (framesBytes (cutFrames (now (datagram .entry)) destination source)) (now (frames .entry)) ⌝ }
 {
-    datagram::cut_datagram(datagram, destination, source)
+    cutting::cut_datagram(datagram, destination, source, frames)
 }
 
-// The frame of Received OK with its flags.
+// The frame of Received OK with its flags, and the number of frames made.
 #[no_mangle]
-pub extern "C" fn bujorelm_received_ok(board: u16, tool: u16, flags: u8) -> TransportReply
-    ensures { λ r. ⌜ r ≡ receivedOk board tool flags ⌝ }
+pub extern "C" fn bujorelm_received_ok(
+    board: u16,
+    tool: u16,
+    flags: u8,
+    frame: &mut [u8; 16],
+) -> usize
+    ensures count { λ r. ⌜ r ≡ length (receivedOk board tool flags) ⌝ }
+    ensures bytes { λ _. ⌜ now (frame .exit) ≡ over (framesBytes (receivedOk board tool flags)) (now (frame .entry)) ⌝ }
 {
-    datagram::received_ok(board, tool, flags)
+    cutting::received_ok(board, tool, flags, frame)
 }
 
-// The frame of Rejected with its code.
+// The frame of Rejected with its code, and the number of frames made.
 #[no_mangle]
-pub extern "C" fn bujorelm_rejected(board: u16, tool: u16, code: u16) -> TransportReply
-    ensures { λ r. ⌜ r ≡ rejectedWith board tool code ⌝ }
+pub extern "C" fn bujorelm_rejected(board: u16, tool: u16, code: u16, frame: &mut [u8; 16]) -> usize
+    ensures count { λ r. ⌜ r ≡ length (rejectedWith board tool code) ⌝ }
+    ensures bytes { λ _. ⌜ now (frame .exit) ≡ over (framesBytes (rejectedWith board tool code)) (now (frame .entry)) ⌝ }
 {
-    datagram::rejected(board, tool, code)
+    cutting::rejected(board, tool, code, frame)
 }
 
 // Reads a GridConnect line without its newline.

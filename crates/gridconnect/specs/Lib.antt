@@ -1,3 +1,1 @@
-pub mod Digits
 pub mod Line
-pub mod Input

@@ -5,16 +5,15 @@ use mathlib.Core.Bool.{Bool, true, false, cond, _&&_}
 use mathlib.Core.List.{List, [], _∷_, _++_}
 use lib.Dec.{leb, eqb}
 use lib.ListN.{length, take, drop, getD, replicate}
-use Rattle.buffer.specs.BigEndian.{numberOf, bytesOf}
 use Rattle.buffer.specs.Buffer.{placed}
 use Rattle.frame.specs.Frame.{frameOf}
 use Rattle.frame.specs.declared.Frame.{Frame}
-use Rattle.gridconnect.specs.Digits.{digitsOf, allDigits, bytesIn}
+use Rattle.hex.specs.Digits.{allDigits, digitsOf, bytesIn, hexDigits, numberIn}
 use Rattle.gridconnect.specs.declared.Parsed.{Parsed}
 
 -- The line of a frame, without the newline behind it.
 unfoldable pub lineOf : ℕ → List ℕ → List ℕ
-lineOf header payload = 58 ∷ 88 ∷ (digitsOf (bytesOf header) ++ 78 ∷ (digitsOf payload ++ 59 ∷ []))
+lineOf header payload = 58 ∷ 88 ∷ (hexDigits 8 header ++ 78 ∷ (digitsOf payload ++ 59 ∷ []))
 
 -- The marks `:X`, `N` and `;` in their places, and a length that leaves an even number of data digits, at most 16.
 unfoldable pub formed : List ℕ → Bool
@@ -30,10 +29,6 @@ headerDigits line = take 8 (drop 2 line)
 abbrev pub dataDigits : List ℕ → List ℕ
 dataDigits line = take (length line - 1 - 11) (drop 11 line)
 
--- The number of four bytes.
-abbrev pub headerFrom : List ℕ → ℕ
-headerFrom bytes = numberOf (getD bytes 0 0) (getD bytes 1 0) (getD bytes 2 0) (getD bytes 3 0)
-
 abbrev pub good : Frame → Parsed
 good f = record { good = true; frame = f }
 
@@ -45,7 +40,7 @@ bad = record { good = false; frame = record { header = 0; len = 0; bytes = repli
 unfoldable pub parseOf : List ℕ → Parsed
 parseOf line =
     cond (formed line && (allDigits (headerDigits line) && allDigits (dataDigits line)))
-    (good (frameOf (headerFrom (bytesIn (headerDigits line))) (bytesIn (dataDigits line))))
+    (good (frameOf (numberIn (headerDigits line)) (bytesIn (dataDigits line))))
     bad
 
 -- A frame that was printed is read back from its line.

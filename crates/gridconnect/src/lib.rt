@@ -1,13 +1,12 @@
-// GridConnect: a frame as a line of text, printed and read, and an input in chunks cut into lines.
-mod hex;
-
+// GridConnect: a frame as a line of text, read and printed.
 use frame::Frame;
 ghost use mathlib.Core.Path.{_≡_};
-ghost use Prim.Native.Nat.{_≤_, min};
+ghost use Prim.Native.Nat.{_+_, _*_, _≤_, _<_};
+ghost use mathlib.Core.List.{[], _∷_};
+ghost use lib.Dec.{leb};
 ghost use lib.ListN.{length};
-ghost use mathlib.Core.List.{[], _++_};
+ghost use Rattle.buffer.specs.Buffer.{placed};
 ghost use Rattle.gridconnect.specs.Line.{parseOf, bad, formed, frameText, unknownText, Printed, ReadBack};
-ghost use Rattle.gridconnect.specs.Input.{carryWith, carryOf, begunOf, untilNewline, nextOf, lastOf, Step, Ends, AnyCuts};
 
 // What a line stands for: a bad one has an all-zero frame.
 #[repr(C)]
@@ -16,24 +15,8 @@ pub struct Parsed {
     pub frame: Frame,
 }
 
-// The beginning of an unfinished line, cut off at 29 bytes: one more than a good line has, so that a longer one is known to be bad.
-// A carry with a greater `len`, which no function here returns, is that of such a line.
-#[repr(C)]
-pub struct Carry {
-    pub len: u8,
-    pub text: [u8; 29],
-}
-
-// A step through a chunk: the line that it completes, if any, the carry afterwards, and the index up to which the chunk was read.
-#[repr(C)]
-pub struct Next {
-    pub complete: bool,
-    pub parsed: Parsed,
-    pub carry: Carry,
-    pub at: usize,
-}
-
-fn bad_line() -> Parsed
+// What a line that stands for no frame is read as.
+pub fn bad_line() -> Parsed
     ensures { λ r. ⌜ r ≡ bad ⌝ }
 {
     Parsed {
@@ -57,7 +40,7 @@ fn is_formed(line: &[u8]) -> bool
     if n > 28 {
         return false;
     }
-    if n % 2 != 0 {
+    if n & 1 != 0 {
         return false;
     }
     if line[0] != b':' {
@@ -80,8 +63,8 @@ pub fn parse_line(line: &[u8]) -> Parsed
     if !is_formed(line) {
         return bad_line();
     }
-    let head = hex::read_bytes(&line[2..10]);
-    if !head.good {
+    let header = hex::read_number(&line[2..10]);
+    if !header.good {
         return bad_line();
     }
     let end = line.len() - 1;
@@ -89,162 +72,80 @@ pub fn parse_line(line: &[u8]) -> Parsed
     if !body.good {
         return bad_line();
     }
-    let h = head.bytes;
     let bytes = body.bytes;
     Parsed {
         good: true,
         frame: Frame {
-            header: buffer::number(h[0], h[1], h[2], h[3]),
+            header: header.value,
             len: body.len,
             bytes,
         },
     }
 }
 
-// Prints a text into `out` from index `at` on and returns the index past it; where it does not fit, nothing is written.
-fn print(text: &[u8], out: &mut [u8], at: usize) -> usize
-    ensures { λ r. ⌜ Printed at (now (text .entry)) (now (out .entry)) r (now (out .exit)) ⌝ }
+// Whether a buffer of `size` bytes has `n` of them from index `at` on.
+fn has_room(size: usize, at: usize, n: usize) -> bool
+    ensures { λ r. ⌜ r ≡ leb (at + n) size ⌝ }
 {
-    buffer::put(out, at, text);
-    if out.len() < at {
-        return at;
+    if size < at {
+        return false;
     }
-    if out.len() - at < text.len() {
-        return at;
-    }
-    at + text.len()
+    n <= size - at
 }
 
-// Prints the frame's line and a newline. A frame of more than 8 bytes has no line.
+fn put_byte(out: &mut [u8], at: usize, a: u8)
+    requires { ⌜ at < length (now out) ⌝ }
+    ensures { λ _. ⌜ now (out .exit) ≡ placed at (a ∷ []) (now (out .entry)) ⌝ }
+{
+    out[at] = a;
+}
+
+fn put_pair(out: &mut [u8], at: usize, a: u8, b: u8)
+    requires { ⌜ at + 1 < length (now out) ⌝ }
+    ensures { λ _. ⌜ now (out .exit) ≡ placed at (a ∷ b ∷ []) (now (out .entry)) ⌝ }
+{
+    out[at] = a;
+    out[at + 1] = b;
+}
+
+// Puts the frame's line and a newline into `out` from index `at` on.
+fn put_line(frame: Frame, out: &mut [u8], at: usize)
+    requires { ⌜ (frame .len ≤ 8) × (at + (13 + frame .len * 2) ≤ length (now out)) ⌝ }
+    ensures { λ _. ⌜ now (out .exit) ≡ placed at (frameText frame) (now (out .entry)) ⌝ }
+{
+    let n = frame.len as usize;
+    let bytes = frame.bytes;
+    put_pair(out, at, b':', b'X');
+    hex::put_number(frame.header, out, at + 2);
+    put_byte(out, at + 10, b'N');
+    hex::put_digits(&bytes[..n], out, at + 11);
+    put_pair(out, at + (11 + n + n), b';', b'\n');
+}
+
+// Prints the frame's line and a newline into `out` from index `at` on and returns the index past it; where it does not fit, nothing is
+// written. A frame of more than 8 bytes has no line.
 pub fn print_frame(frame: Frame, out: &mut [u8], at: usize) -> usize
     ensures { λ r. ⌜ Printed at (frameText frame) (now (out .entry)) r (now (out .exit)) ⌝ }
 {
-    let n = frame.len as usize;
-    if 8 < n {
+    if 8 < frame.len {
         return at;
     }
-    let bytes = frame.bytes;
-    let head = buffer::bytes(frame.header);
-    let mut text = [0u8; 29];
-    buffer::put(&mut text, 0, b":X");
-    hex::put_digits(&head, &mut text, 2);
-    buffer::put(&mut text, 10, b"N");
-    hex::put_digits(&bytes[..n], &mut text, 11);
-    buffer::put(&mut text, 11 + n * 2, b";\n");
-    print(&text[..13 + n * 2], out, at)
+    let n = frame.len as usize;
+    let size = 13 + n + n;
+    if !has_room(out.len(), at, size) {
+        return at;
+    }
+    put_line(frame, out, at);
+    at + size
 }
 
-// Prints the answer to a bad line.
+// Prints the answer to a bad line in the same way.
 pub fn print_unknown(out: &mut [u8], at: usize) -> usize
     ensures { λ r. ⌜ Printed at unknownText (now (out .entry)) r (now (out .exit)) ⌝ }
 {
-    print(b"?\n", out, at)
-}
-
-// The carry before any input.
-pub fn start() -> Carry
-    ensures { λ r. ⌜ r ≡ carryOf [] ⌝ }
-{
-    Carry {
-        len: 0,
-        text: [0u8; 29],
+    if !has_room(out.len(), at, 2) {
+        return at;
     }
-}
-
-fn smaller(a: usize, b: usize) -> usize
-    ensures { λ r. ⌜ (r ≤ a) × (r ≤ b) × (r ≡ min a b) ⌝ }
-{
-    if a < b { a } else { b }
-}
-
-// The carry with a part of the same line behind it, cut off at 29 bytes.
-fn append(carry: Carry, part: &[u8]) -> Carry
-    ensures { λ r. ⌜ r ≡ carryWith (begunOf carry ++ now (part .entry)) ⌝ }
-{
-    let begun = carry.text;
-    let n = smaller(carry.len as usize, 29);
-    let k = smaller(29 - n, part.len());
-    let mut text = [0u8; 29];
-    buffer::put(&mut text, 0, &begun[..n]);
-    buffer::put(&mut text, n, &part[..k]);
-    Carry {
-        len: (n + k) as u8,
-        text,
-    }
-}
-
-// How many bytes stand before the first newline, or in all.
-fn line_size(rest: &[u8]) -> usize
-    ensures { λ r. ⌜ r ≡ length (untilNewline (now (rest .entry))) ⌝ }
-{
-    let mut i: usize = 0;
-    while i < rest.len() {
-        if rest[i] == b'\n' {
-            return i;
-        }
-        i += 1;
-    }
-    i
-}
-
-// Reads the line that was begun in the carry and ends with the part. A line that stands whole in the chunk is not copied.
-fn parse_end(carry: Carry, part: &[u8]) -> Parsed
-    ensures { λ r. ⌜ r ≡ parseOf (begunOf carry ++ now (part .entry)) ⌝ }
-{
-    if carry.len == 0 {
-        return parse_line(part);
-    }
-    let whole = append(carry, part);
-    let n = whole.len as usize;
-    let text = whole.text;
-    parse_line(&text[..n])
-}
-
-// Reads the chunk from index `from` on, up to and including the next newline or to the chunk's end. Of a bad or missing line the frame
-// is all zero. An index past the end is like the end.
-pub fn next_line(chunk: &[u8], from: usize, carry: Carry) -> Next
-    ensures { λ r. ⌜ r ≡ nextOf carry (now (chunk .entry)) from ⌝ }
-    ensures step { λ r. ⌜ Step carry (now (chunk .entry)) from r ⌝ }
-    ensures cuts { λ _. ⌜ AnyCuts ⌝ }
-{
-    let first = smaller(from, chunk.len());
-    let rest = &chunk[first..];
-    let n = line_size(rest);
-    if n < rest.len() {
-        let parsed = parse_end(carry, &rest[..n]);
-        let nothing_begun = start();
-        return Next {
-            complete: true,
-            parsed,
-            carry: nothing_begun,
-            at: first + n + 1,
-        };
-    }
-    Next {
-        complete: false,
-        parsed: bad_line(),
-        carry: append(carry, rest),
-        at: chunk.len(),
-    }
-}
-
-// The end of the input: a last line that lacks its newline is a line, and nothing left is none.
-pub fn last_line(carry: Carry) -> Next
-    ensures { λ r. ⌜ r ≡ lastOf carry ⌝ }
-    ensures ends { λ r. ⌜ Ends carry r ⌝ }
-{
-    if carry.len == 0 {
-        return Next {
-            complete: false,
-            parsed: bad_line(),
-            carry: start(),
-            at: 0,
-        };
-    }
-    Next {
-        complete: true,
-        parsed: parse_end(carry, b""),
-        carry: start(),
-        at: 0,
-    }
+    put_pair(out, at, b'?', b'\n');
+    at + 2
 }

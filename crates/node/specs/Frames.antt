@@ -4,18 +4,19 @@ use mathlib.Core.Bool.{cond}
 use mathlib.Core.List.{List}
 use mathlib.Core.Path.{_≡_}
 use lib.ListN.{length}
-use Rattle.board.specs.HouseNumbers.{isGood, descriptionHouse}
-use Rattle.board.specs.declared.HouseNumber.{HouseNumber}
-use Rattle.board.specs.declared.HouseNumber.the-variants.{Good, B7}
+use Rattle.house.specs.HouseNumbers.{isGood, descriptionHouse}
+use Rattle.house.specs.declared.HouseNumber.{HouseNumber}
+use Rattle.house.specs.declared.HouseNumber.the-variants.{Good, B7}
 use Rattle.frame.specs.Frame.{CanFrame}
-use Rattle.datagram.specs.Reception.{State}
-use Rattle.datagram.specs.Order as order
-use Rattle.datagram.specs.Order.{FrameResult, result, houseRefusal, ignoredFrame, nothing, transportRefusal, handled, handleFrame, OrderStatement}
-use Rattle.node.specs.Performing.{Fixed, Contents, Result, Outcome, handle}
-use Rattle.node.specs.Datagram.{answerOf, bufferOf, datagramHouse}
+use Rattle.reception.specs.Reception.{State}
+use Rattle.reception.specs.Order as order
+use Rattle.reception.specs.Order.{FrameResult, result, houseRefusal, ignoredFrame, nothing, transportRefusal, handled, handleFrame, OrderStatement}
+use Rattle.reception.specs.PlaceBytes.{placesIn, renewed}
+use Rattle.reply.specs.Answers.{Result, answerOf, bufferOf}
+use Rattle.handler.specs.Performing.{Fixed, Contents, Outcome, handle}
+use Rattle.handler.specs.Datagram.{datagramHouse}
 use Rattle.node.specs.declared.FrameAnswer.{FrameAnswer}
 use Rattle.node.specs.declared.FrameAnswer.the-variants as answer
-use Rattle.node.specs.declared.FrameDone.{FrameDone}
 
 -- ---- the call
 
@@ -28,7 +29,7 @@ handler x c d = let o = handle x c d in (o .result, o .contents)
 unfoldable pub frameCall : Fixed → List ℕ → State → Contents → CanFrame → FrameResult HouseNumber Contents Result
 frameCall x buffer st c f =
     cond (isGood (datagramHouse x (c .memory) buffer))
-    (handleFrame B7 (handler x) (x .description .alias) st c f)
+    (handleFrame B7 (handler x) (x .alias) st c f)
     (result st c (houseRefusal (datagramHouse x (c .memory) buffer)))
 
 -- ---- demand 3
@@ -43,8 +44,8 @@ pub record Call : Type 0 where
 -- their books.
 abbrev pub NodeOrder : Fixed → Type 0
 NodeOrder x =
-    (m : ℕ) → descriptionHouse (x .description) (length (x .flash)) m ≡ Good
-    → OrderStatement {C = Call} (λ k. k .frame) (λ k. 72 ≤ length (k .buffer)) (λ c. length (c .memory) ≡ m) B7 (handler x) (x .description .alias)
+    (m : ℕ) → descriptionHouse (x .alias) (x .spaces) (length (x .flash)) m ≡ Good
+    → OrderStatement {C = Call} (λ k. k .frame) (λ k. 72 ≤ length (k .buffer)) (λ c. length (c .memory) ≡ m) B7 (handler x) (x .alias)
     (λ st c k. frameCall x (k .buffer) st c (k .frame))
 
 -- ---- what the code gives back
@@ -65,11 +66,16 @@ frameBufferOf nothing buffer = buffer
 frameBufferOf (transportRefusal code) buffer = buffer
 frameBufferOf (handled r) buffer = bufferOf r buffer
 
--- The code's result, the pool, memory and the buffer `after` are what x says, over the buffer `before`.
-pub record FrameEnds (x : FrameResult HouseNumber Contents Result) (r : FrameDone) (before bytes stored after : List ℕ) : Type 0 where
-  pub answer : r .answer ≡ frameAnswerOf (x .answer)
-  pub places : r .reception .places ≡ x .state .places
-  pub pool : bytes ≡ x .state .pool
-  pub memory : stored ≡ x .world .memory
-  pub lock : r .lock ≡ x .world .lock
+-- The answer r, the buffer `after`, memory and lock are what x says, over the buffer `before`.
+pub record Answers (x : FrameResult HouseNumber Contents Result) (r : FrameAnswer) (before after stored held : List ℕ) : Type 0 where
+  pub answer : r ≡ frameAnswerOf (x .answer)
   pub reply : after ≡ frameBufferOf (x .answer) before
+  pub memory : stored ≡ x .world .memory
+  pub lock : held ≡ x .world .lock
+
+-- The bytes of the places, which were `before` and are `after`, and the pool are what x says. A place that is changed gets its bytes anew,
+-- and every other keeps all of them.
+pub record Keeps (x : FrameResult HouseNumber Contents Result) (before after bytes : List ℕ) : Type 0 where
+  pub places : placesIn after ≡ x .state .places
+  pub renewal : after ≡ renewed (x .state .places) before
+  pub pool : bytes ≡ x .state .pool

@@ -1,106 +1,96 @@
 // What a joined frame brings about, answered.
 use crate::FrameAnswer;
-use crate::FrameDone;
-use crate::perform;
-use board::Description;
-use board::HouseNumber;
-use datagram::Outcome;
-use datagram::Reception;
+use house::HouseNumber;
+use joining::Outcome;
 ghost use mathlib.Core.Path.{_≡_};
 ghost use Prim.Native.Nat.{_≤_};
 ghost use lib.ListN.{length};
-ghost use Rattle.board.specs.HouseNumbers.{descriptionHouse};
-ghost use Rattle.datagram.specs.Books.{finish};
-ghost use Rattle.datagram.specs.Reception.{state, eventOf, InsidePool};
-ghost use Rattle.datagram.specs.Order.{answerEvent};
-ghost use Rattle.node.specs.Performing.{fixed, contents};
-ghost use Rattle.node.specs.Frames.{handler, FrameEnds};
+ghost use Rattle.board.specs.Table.{spacesIn};
+ghost use Rattle.reception.specs.Books.{finish};
+ghost use Rattle.reception.specs.Reception.{State};
+ghost use Rattle.reception.specs.Order.{answerEvent};
+ghost use Rattle.joining.specs.Joins.{eventOf, InsidePool};
+ghost use Rattle.handler.specs.Performing.{fixed, contents};
+ghost use Rattle.node.specs.Frames.{handler, Answers};
 
 // A finished datagram, handled whole.
 fn answer_datagram(
-    description: Description,
+    alias: u16,
+    write_lengths: u8,
+    spaces: &[u8],
     flash: &[u8],
     memory: &mut [u8],
-    lock: [u8; 6],
-    pool: &[u8],
-    reception: Reception,
+    lock: &mut [u8; 6],
     datagram: &[u8],
-    reply: &mut [u8],
-) -> FrameDone
-    requires { ⌜ (descriptionHouse description (length (now flash)) (length (now memory)) ≡ HouseNumber.Good) × (72 ≤ length (now reply)) ⌝ }
-    ensures { λ r. ⌜ FrameEnds (answerEvent HouseNumber.B7 (handler (fixed description (now (flash .entry)))) (state (reception .places) (now (pool .entry))) (contents (now (memory .entry)) lock) (finish (now (datagram .entry)))) r (now (reply .entry)) (now (pool .entry)) (now (memory .exit)) (now (reply .exit)) ⌝ }
+    out: &mut [u8],
+) -> FrameAnswer
+    requires { ⌜ 72 ≤ length (now out) ⌝ }
+    ensures { λ r. ⌜ ((st : State) → Answers (answerEvent HouseNumber.B7 (handler (fixed alias «write_lengths» (spacesIn (now (spaces .entry))) (now (flash .entry)))) st (contents (now (memory .entry)) (now (lock .entry))) (finish (now (datagram .entry)))) r (now (out .entry)) (now (out .exit)) (now (memory .exit)) (now (lock .exit))) ⌝ }
 {
-    let done = perform::handle(description, flash, memory, lock, datagram, reply);
-    let answer = done.answer;
-    let held = done.lock;
-    FrameDone {
-        answer: FrameAnswer::Answered(answer),
-        reception: reception,
-        lock: held,
-    }
+    FrameAnswer::Answered(handler::handle(
+        alias,
+        write_lengths,
+        spaces,
+        flash,
+        memory,
+        lock,
+        datagram,
+        out,
+    ))
 }
 
-// A frame that finishes no datagram.
-fn answer_frame(answer: FrameAnswer, reception: Reception, lock: [u8; 6]) -> FrameDone
-    ensures { λ r. ⌜ (r .answer ≡ answer) × (r .reception ≡ reception) × (r .lock ≡ lock) ⌝ }
-{
-    FrameDone {
-        answer: answer,
-        reception: reception,
-        lock: lock,
-    }
-}
-
+// The answer to what joining gave, whatever it left of the reception state.
 pub fn answer_outcome(
-    description: Description,
+    alias: u16,
+    write_lengths: u8,
+    spaces: &[u8],
     flash: &[u8],
     memory: &mut [u8],
-    lock: [u8; 6],
+    lock: &mut [u8; 6],
     pool: &[u8],
-    reception: Reception,
     outcome: Outcome,
     payload: &[u8],
-    reply: &mut [u8],
-) -> FrameDone
-    requires { ⌜ (descriptionHouse description (length (now flash)) (length (now memory)) ≡ HouseNumber.Good) × (72 ≤ length (now reply)) × (length (now pool) ≡ 576) × InsidePool outcome ⌝ }
-    ensures { λ r. ⌜ FrameEnds (answerEvent HouseNumber.B7 (handler (fixed description (now (flash .entry)))) (state (reception .places) (now (pool .entry))) (contents (now (memory .entry)) lock) (eventOf outcome (now (payload .entry)) (now (pool .entry)))) r (now (reply .entry)) (now (pool .entry)) (now (memory .exit)) (now (reply .exit)) ⌝ }
+    out: &mut [u8],
+) -> FrameAnswer
+    requires { ⌜ (72 ≤ length (now out)) × (length (now pool) ≡ 576) × InsidePool outcome ⌝ }
+    ensures { λ r. ⌜ ((st : State) → Answers (answerEvent HouseNumber.B7 (handler (fixed alias «write_lengths» (spacesIn (now (spaces .entry))) (now (flash .entry)))) st (contents (now (memory .entry)) (now (lock .entry))) (eventOf outcome (now (payload .entry)) (now (pool .entry)))) r (now (out .entry)) (now (out .exit)) (now (memory .exit)) (now (lock .exit))) ⌝ }
 {
     match outcome {
         Outcome::BadState => {
-            return answer_frame(FrameAnswer::Refused(HouseNumber::B7), reception, lock);
+            return FrameAnswer::Refused(HouseNumber::B7);
         }
         Outcome::Ignored => {
-            return answer_frame(FrameAnswer::Ignored, reception, lock);
+            return FrameAnswer::Ignored;
         }
         Outcome::NoAnswer => {
-            return answer_frame(FrameAnswer::Nothing, reception, lock);
+            return FrameAnswer::Nothing;
         }
         Outcome::Refuse(code) => {
-            return answer_frame(FrameAnswer::TransportRefusal(code), reception, lock);
+            return FrameAnswer::TransportRefusal(code);
         }
         Outcome::InFrame => {
             return answer_datagram(
-                description,
+                alias,
+                write_lengths,
+                spaces,
                 flash,
                 memory,
                 lock,
-                pool,
-                reception,
                 payload,
-                reply,
+                out,
             );
         }
         Outcome::InPool(from, end) => {
             let datagram = &pool[from..end];
             return answer_datagram(
-                description,
+                alias,
+                write_lengths,
+                spaces,
                 flash,
                 memory,
                 lock,
-                pool,
-                reception,
                 datagram,
-                reply,
+                out,
             );
         }
     }

@@ -2,10 +2,10 @@
 // memory that changed, and the lock memory afterwards. The datagrams are lines of hexadecimal digits on standard input. A line that starts
 // with `#` is printed again; `@` and a digit says how many of the board's spaces are described from there on, `@L` that the lock is held
 // before each datagram, and `@U` that it is free.
+use handler::Handled;
 use libc::STDIN_FILENO;
 use libc::STDOUT_FILENO;
-use node::Answer;
-use node::Handled;
+use reply::Answer;
 
 // The reply buffer is filled with this before each call, so that a byte past the reply that changed is seen.
 const FILL: u8 = 0xEE;
@@ -140,28 +140,28 @@ fn push_lock(line: &mut [u8], at: usize, lock: [u8; 6]) -> usize {
 }
 
 // The line for a datagram on a board that describes the first `count` of the demonstration board's spaces, and whose lock memory is
-// `lock` before.
-fn run_on(datagram: &[u8], count: usize, lock: [u8; 6], line: &mut [u8]) {
-    let mut description = demonstration::board_description();
-    description.count = count;
+// `held` before.
+fn run_on(datagram: &[u8], count: u8, held: [u8; 6], line: &mut [u8]) {
+    let table = demonstration::table_bytes();
     let flash = demonstration::flash_bytes();
     let mut memory = demonstration::memory_bytes();
+    let mut lock = held;
     let mut reply = [FILL; 80];
-    let result = node::handle_datagram(
-        description,
+    let handled = handler::handle_datagram(
+        demonstration::alias(),
+        demonstration::write_lengths(),
+        buffer::part(&table, 0, count as usize * 16),
         &flash,
         &mut memory,
-        lock,
+        &mut lock,
         datagram,
         &mut reply,
     );
-    let handled = result.handled;
-    let left = result.lock;
     let sent = push_bytes(line, 0, datagram);
     let named = push_text(line, sent, b": ");
     let answered = push_handled(line, named, handled, &reply);
     let changed = push_changes(line, answered, &memory);
-    let locked = push_lock(line, changed, left);
+    let locked = push_lock(line, changed, lock);
     let end = push(line, locked, b'\n');
     if end <= line.len() {
         io::write_all(STDOUT_FILENO, &line[..end]);
@@ -176,7 +176,7 @@ struct Row {
     half: bool,
     title: bool,
     setting: bool,
-    count: usize,
+    count: u8,
     held: bool,
 }
 
@@ -243,7 +243,7 @@ fn with_setting(row: Row, byte: u8) -> Row {
         next.held = false;
         return next;
     }
-    next.count = digit_value(byte) as usize;
+    next.count = digit_value(byte);
     next
 }
 
@@ -255,7 +255,7 @@ fn lock_before(held: bool) -> [u8; 6] {
 }
 
 // The datagram of a line, run.
-fn run_bytes(bytes: [u8; 80], len: usize, count: usize, held: bool, line: &mut [u8]) {
+fn run_bytes(bytes: [u8; 80], len: usize, count: u8, held: bool, line: &mut [u8]) {
     run_on(buffer::part(&bytes, 0, len), count, lock_before(held), line);
 }
 

@@ -2,7 +2,8 @@
 
 use std::hint::black_box;
 
-use compare::ffi::{self, Flag, MOST_SPACES, POOL_BYTES};
+use compare::ffi::{self, Lock, Places, Pool, PLACE_BYTES};
+use compare::layout::{canonical, set_place, Held};
 use model::{FrameAnswer, Reception, Space, Unfinished};
 
 /// A frame to be fed in.
@@ -53,12 +54,13 @@ const WRITE_LENGTHS: u8 = 0xF2;
 
 /// The board as a caller of the library keeps it.
 pub struct LibraryBoard {
-    description: ffi::Description,
+    alias: u16,
+    table: Vec<u8>,
     flash: Vec<u8>,
     memory: Vec<u8>,
-    lock: ffi::Lock,
-    pool: [u8; POOL_BYTES],
-    reception: ffi::Reception,
+    lock: Lock,
+    pool: Pool,
+    places: Places,
     reply: [u8; 72],
 }
 
@@ -71,75 +73,61 @@ pub struct ModelBoard {
     reply: [u8; 72],
 }
 
+/// The bytes of a space in a table.
+fn space_bytes(space: &Space) -> Vec<u8> {
+    [
+        &[
+            space.number,
+            u8::from(space.read_only),
+            u8::from(space.in_flash),
+            0,
+        ],
+        &space.lowest.to_le_bytes()[..],
+        &space.highest.to_le_bytes(),
+        &space.offset.to_le_bytes(),
+    ]
+    .concat()
+}
+
 impl LibraryBoard {
     /// A fresh board.
     #[must_use]
     pub fn new(blueprint: &Blueprint) -> Self {
-        let unused = ffi::Space {
-            number: 0,
-            read_only: Flag::from(false),
-            in_flash: Flag::from(false),
-            lowest: 0,
-            highest: 0,
-            offset: 0,
-        };
-        let mut spaces = [unused; MOST_SPACES];
-        for (place, space) in spaces.iter_mut().zip(&blueprint.spaces) {
-            *place = ffi::Space {
-                number: space.number,
-                read_only: Flag::from(space.read_only),
-                in_flash: Flag::from(space.in_flash),
-                lowest: space.lowest,
-                highest: space.highest,
-                offset: space.offset,
-            };
-        }
-        let mut reception = ffi::new_reception();
-        let mut pool = [0; POOL_BYTES];
-        for ((place, bytes), &source) in reception
-            .places
-            .iter_mut()
-            .zip(pool.chunks_exact_mut(72))
-            .zip(&blueprint.others)
-        {
-            place.held = Flag::from(true);
-            place.len = BEGUN.len() as u8;
-            place.source = source;
-            bytes[..BEGUN.len()].copy_from_slice(&BEGUN);
+        let mut places = [0; ffi::PLACES_SIZE];
+        let mut pool = [0; ffi::POOL_BYTES];
+        for (index, &source) in blueprint.others.iter().enumerate() {
+            let len = BEGUN.len() as u8;
+            set_place(&mut places, index, canonical(Some(Held { len, source })));
+            pool[PLACE_BYTES * index..][..BEGUN.len()].copy_from_slice(&BEGUN);
         }
         Self {
-            description: ffi::Description {
-                alias: blueprint.alias,
-                write_lengths: WRITE_LENGTHS,
-                count: blueprint.spaces.len(),
-                spaces,
-            },
+            alias: blueprint.alias,
+            table: blueprint.spaces.iter().flat_map(space_bytes).collect(),
             flash: blueprint.flash.clone(),
             memory: vec![0; blueprint.memory_len],
-            lock: ffi::Lock { bytes: [0; 6] },
+            lock: [0; 6],
             pool,
-            reception,
+            places,
             reply: [0; 72],
         }
     }
 
-    /// Feeds one frame in, as a driver does: what the call gives is kept for the next one.
+    /// Feeds one frame in, as a driver does.
     #[inline]
     pub fn frame(&mut self, frame: &Incoming) -> ffi::Numbers {
-        let done = ffi::handle_frame(
-            black_box(&self.description),
+        ffi::handle_frame(
+            self.alias,
+            WRITE_LENGTHS,
+            black_box(&self.table),
             &self.flash,
             &mut self.memory,
-            self.lock,
+            &mut self.lock,
             &mut self.pool,
-            &self.reception,
+            &mut self.places,
             frame.header,
             frame.data(),
             &mut self.reply,
-        );
-        self.lock = done.lock;
-        self.reception = done.reception;
-        done.answer
+        )
     }
 
     /// The reply buffer.

@@ -133,9 +133,9 @@ impl<'s> Subject<'s> {
     }
 }
 
-/// Measures all of them in sweeps, so that a slow minute is not one subject's alone. Structs that
-/// go by value go over the stack, and where that stands in a cache line makes a difference: each
-/// sweep has it elsewhere.
+/// Measures all of them in sweeps, so that a slow minute is not one subject's alone. Arguments and
+/// locals lie on the stack, and where that stands in a cache line makes a difference: each sweep
+/// has it elsewhere.
 pub fn measure(groups: &mut [Vec<Subject>]) {
     let places = [deeper::<2>, deeper::<4>, deeper::<6>, deeper::<8>];
     for sweep in 0..SWEEPS {

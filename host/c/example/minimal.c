@@ -53,15 +53,16 @@ static bool can_send(void *context, const struct bujorelm_frame *frame)
 static const uint8_t cdi[] = "<cdi/>"; /* with the zero byte that ends it */
 static uint8_t settings[64];
 
+static const struct bujorelm_space spaces[] = {
+    {.number = 0xFD, .read_only = false, .in_flash = false, .lowest = 0, .highest = sizeof settings - 1, .offset = 0},
+    {.number = 0xFF, .read_only = true, .in_flash = true, .lowest = 0, .highest = sizeof cdi - 1, .offset = 0},
+};
+
 static const struct bujorelm_description description = {
     .alias = 0x123,
     .write_lengths = 0xF2,
-    .count = 2,
-    .spaces =
-        {
-            {.number = 0xFD, .read_only = false, .in_flash = false, .lowest = 0, .highest = sizeof settings - 1, .offset = 0},
-            {.number = 0xFF, .read_only = true, .in_flash = true, .lowest = 0, .highest = sizeof cdi - 1, .offset = 0},
-        },
+    .count = sizeof spaces / sizeof spaces[0],
+    .spaces = spaces,
 };
 
 int main(void)

@@ -9,18 +9,17 @@
  *
  * - Nothing is allocated, nothing is static: all state is the caller's. No pointer is kept after a call, so a buffer may be moved or
  *   freed as soon as the call is back. Calls for different boards may run at once; calls for one board must not.
- * - A buffer is a pointer and then its length. What is lent as `const` is read only, and never past its length. Of a lent buffer that
- *   is not `const` nothing past its length is touched. Where a length is 0 the pointer is not used and may be NULL.
+ * - All that a board has is lent, and changed in place. A buffer is a pointer and then its length; what has one size, as the lock memory,
+ *   is a pointer alone. What is lent as `const` is read only, and never past its length. Of what is lent and not `const` nothing past its
+ *   length is touched. Where a length is 0 the pointer is not used and may be NULL.
  * - The buffers of one call must not overlap, but that two `const` ones may be the same bytes.
- * - Structs go in and come back by value. What a call changes in them is in the struct that it returns; the caller's own copy stays as
- *   it was until the caller stores the new one. The inline functions at the end of this file do that.
- * - A `bool` must be 0 or 1. A byte that is neither, as left by memcpy or memset into a struct, is the caller's fault and what then
- *   happens is not determined. Padding bytes mean nothing.
- * - Apart from that, and from pointers that do not lead to as many bytes as they should, there is no input that a function cannot take:
- *   every other wrong value is refused by a number, and then nothing changes.
+ * - The library sees what it is lent as bytes, and every byte has a meaning: one that says yes or no is no where it is 0 and yes where it
+ *   is anything else, and the bytes that are said to mean nothing may hold anything.
+ * - Apart from pointers that do not lead to as many bytes as they should, there is no input that a function cannot take: every wrong
+ *   value is refused by a number, and then nothing changes.
  *
- * The archive links into x86-64 programs (System V calling convention). The assertions below stop the compiler where the layout of a
- * struct is not the library's.
+ * The archive links into x86-64 programs (System V calling convention), and so numbers of several bytes have the least significant byte
+ * first. The assertions below stop the compiler where the layout of a struct is not the library's.
  */
 #ifndef BUJORELM_H
 #define BUJORELM_H
@@ -103,10 +102,9 @@ enum {
     /* The reply buffer has fewer than 72 bytes. */
     BUJORELM_HOUSE_B6 = 6,
     /* In bujorelm_handle_frame only: the reception state holds an unfinished datagram over 72 bytes, or one from a source over 4,095,
-       or two from one source. A state that starts as bujorelm_new_reception() and is only ever replaced by what a call returned never
-       does. */
+       or two from one source. A state that starts all zero and is changed by calls alone never does. */
     BUJORELM_HOUSE_B7 = 7
-    /* B9 belongs to bujorelm_cut alone and is its `refused`. */
+    /* B9 belongs to bujorelm_cut alone, which then makes no frame and returns 0. */
 };
 
 /* The flags of Received OK. */
@@ -145,24 +143,25 @@ enum {
    the bytes behind the data are zero. */
 struct bujorelm_frame {
     uint32_t header;
-    uint8_t len;
+    uint32_t len;
     uint8_t bytes[8];
 };
 
-/* An address space. `lowest` and `highest` are both addresses in it. Its bytes lie in flash or in memory, from index `offset` on; spaces
-   may overlap there. */
+/* An address space. `lowest` and `highest` are both addresses in it. It is writable where `read_only` is 0, and read-only where that is
+   any other byte. Its bytes lie in memory where `in_flash` is 0, and in flash where that is any other byte, from index `offset` on; spaces
+   may overlap there. The byte in front of `lowest` is padding and means nothing. */
 struct bujorelm_space {
     uint8_t number;
-    bool read_only;
-    bool in_flash;
+    uint8_t read_only;
+    uint8_t in_flash;
     uint32_t lowest;
     uint32_t highest;
     uint32_t offset;
 };
 
 /*
- * The board: its alias, the Write Lengths byte that it reports as given, and the first `count` of `spaces`. What stands behind those is
- * not looked at, except that each bool there must be 0 or 1 too.
+ * The board: its alias, the Write Lengths byte that it reports as given, and a table of `count` spaces. The table stays the caller's and
+ * may be const, so that it lies in flash. It must outlive the description, at the same place; with `count` 0 it may be NULL.
  *
  * 0xFD, 0xFE and 0xFF are known even where they are left out: then they are empty, and 0xFF is read-only.
  */
@@ -170,23 +169,27 @@ struct bujorelm_description {
     uint16_t alias;
     uint8_t write_lengths;
     size_t count;
-    struct bujorelm_space spaces[BUJORELM_SPACES_MAX];
+    const struct bujorelm_space *spaces;
 };
 
-/* The lock memory: zero at the start, afterwards what each call returns. It is set by Lock/Reserve (0x88) and changes nothing else. */
+/* The lock memory: zero at the start, afterwards as each call leaves it. It is set by Lock/Reserve (0x88) and changes nothing else. */
 struct bujorelm_lock {
     uint8_t bytes[6];
 };
 
-/* A place for an unfinished datagram: whether it holds one, how many bytes of it have come, and the alias that it comes from. Those bytes
-   are in the pool, from index 72 times the place's own on. */
+/* A place for an unfinished datagram: whether it holds one (any byte but 0), how many bytes of it have come, and the alias that it comes
+   from. Those bytes are in the pool, from index 72 times the place's own on. `unused` means nothing, and where the place holds no datagram
+   `len` and `source` mean nothing either. A place that a call changes has 1 in `held` and zeros in `unused` afterwards, or is all zero
+   where it holds no datagram any more; a place that the call does not change keeps all its bytes. */
 struct bujorelm_place {
-    bool held;
+    uint8_t held;
     uint8_t len;
     uint16_t source;
+    uint8_t unused[4];
 };
 
-/* The reception state, but for the bytes in the pool. The two belong together: keep both from one call to the next. */
+/* The reception state, but for the bytes in the pool: all zero at the start, when nothing is unfinished; what the pool holds then does not
+   matter. The two belong together: keep both from one call to the next. */
 struct bujorelm_reception {
     struct bujorelm_place places[BUJORELM_PLACES];
 };
@@ -198,33 +201,6 @@ struct bujorelm_numbers {
     uint8_t flags;
     uint16_t code;
     size_t reply_len;
-};
-
-/* What bujorelm_handle_datagram returns: what came of it, and the lock memory afterwards. */
-struct bujorelm_datagram_return {
-    struct bujorelm_numbers answer;
-    struct bujorelm_lock lock;
-};
-
-/* What bujorelm_handle_frame returns: what came of it, and the reception state and the lock memory afterwards. */
-struct bujorelm_frame_return {
-    struct bujorelm_numbers answer;
-    struct bujorelm_reception reception;
-    struct bujorelm_lock lock;
-};
-
-/* A datagram cut into frames: the first `count` of `frames`, to be sent in their order; the others are all zero. `refused` is B9, and then
-   `count` is 0. */
-struct bujorelm_cut_frames {
-    bool refused;
-    size_t count;
-    struct bujorelm_frame frames[BUJORELM_FRAMES_MAX];
-};
-
-/* A transport reply as a frame. Where it is `refused` the frame is all zero. */
-struct bujorelm_transport_reply {
-    bool refused;
-    struct bujorelm_frame frame;
 };
 
 /* A line that was read. Where it is not `good` the frame is all zero. */
@@ -252,7 +228,7 @@ BUJORELM_ASSERT(pointers_have_8_bytes, sizeof(void *) == 8);
 BUJORELM_SIZE(frame, 16);
 BUJORELM_AT(frame, header, 0);
 BUJORELM_AT(frame, len, 4);
-BUJORELM_AT(frame, bytes, 5);
+BUJORELM_AT(frame, bytes, 8);
 
 BUJORELM_SIZE(space, 16);
 BUJORELM_AT(space, number, 0);
@@ -262,21 +238,16 @@ BUJORELM_AT(space, lowest, 4);
 BUJORELM_AT(space, highest, 8);
 BUJORELM_AT(space, offset, 12);
 
-BUJORELM_SIZE(description, 272);
-BUJORELM_AT(description, alias, 0);
-BUJORELM_AT(description, write_lengths, 2);
-BUJORELM_AT(description, count, 8);
-BUJORELM_AT(description, spaces, 16);
-
 BUJORELM_SIZE(lock, 6);
 BUJORELM_AT(lock, bytes, 0);
 
-BUJORELM_SIZE(place, 4);
+BUJORELM_SIZE(place, 8);
 BUJORELM_AT(place, held, 0);
 BUJORELM_AT(place, len, 1);
 BUJORELM_AT(place, source, 2);
+BUJORELM_AT(place, unused, 4);
 
-BUJORELM_SIZE(reception, 32);
+BUJORELM_SIZE(reception, 64);
 BUJORELM_AT(reception, places, 0);
 
 BUJORELM_SIZE(numbers, 16);
@@ -286,27 +257,13 @@ BUJORELM_AT(numbers, flags, 2);
 BUJORELM_AT(numbers, code, 4);
 BUJORELM_AT(numbers, reply_len, 8);
 
-BUJORELM_SIZE(datagram_return, 24);
-BUJORELM_AT(datagram_return, answer, 0);
-BUJORELM_AT(datagram_return, lock, 16);
-
-BUJORELM_SIZE(frame_return, 56);
-BUJORELM_AT(frame_return, answer, 0);
-BUJORELM_AT(frame_return, reception, 16);
-BUJORELM_AT(frame_return, lock, 48);
-
-BUJORELM_SIZE(cut_frames, 160);
-BUJORELM_AT(cut_frames, refused, 0);
-BUJORELM_AT(cut_frames, count, 8);
-BUJORELM_AT(cut_frames, frames, 16);
-
-BUJORELM_SIZE(transport_reply, 20);
-BUJORELM_AT(transport_reply, refused, 0);
-BUJORELM_AT(transport_reply, frame, 4);
-
 BUJORELM_SIZE(parsed, 20);
 BUJORELM_AT(parsed, good, 0);
 BUJORELM_AT(parsed, frame, 4);
+
+#if defined(__BYTE_ORDER__) && defined(__ORDER_LITTLE_ENDIAN__)
+BUJORELM_ASSERT(least_significant_byte_first, __BYTE_ORDER__ == __ORDER_LITTLE_ENDIAN__);
+#endif
 
 #undef BUJORELM_SIZE
 #undef BUJORELM_AT
@@ -314,50 +271,54 @@ BUJORELM_AT(parsed, frame, 4);
 
 /* ---- Functions of the library ---- */
 
-/* The reception state at the start: nothing unfinished. What the pool holds then does not matter. */
-struct bujorelm_reception bujorelm_new_reception(void);
-
 /*
  * Handles a frame from the bus. Hand in every received frame with an extended header; those that are not for the board are ignored.
  *
- * description  the board, looked at anew at each call
- * flash        lent; what spaces in flash read from
- * memory       lent; what the other spaces read from and write to. Only a write or masked write that is done changes it
- * lock         the lock memory before the call; `lock` of the return is the one to keep
- * pool         lent, 576 bytes: the bytes of unfinished datagrams. Keep them as they are between calls
- * reception    the reception state before the call; `reception` of the return is the one to keep
- * header       the 29-bit CAN header
- * payload      lent; the frame's data. Any length may be handed in: a frame of over 8 bytes is ignored
- * reply        lent, at least 72 bytes. Written only where the kind is BUJORELM_REPLIED, and then only its first `reply_len` bytes, which
- *              are at most 72. It need not be cleared, and nothing of it is needed by a later call
+ * alias          the board's alias, 1 to 4,095
+ * write_lengths  the Write Lengths byte that the board reports as given
+ * spaces         lent; the table of spaces, looked at anew at each call
+ * spaces_size    its size in bytes, 16 for each space: bujorelm_spaces_size(count). Bytes behind the last whole space are no space
+ * flash          lent; what spaces in flash read from
+ * memory         lent; what the other spaces read from and write to. Only a write or masked write that is done changes it
+ * lock           lent; the lock memory. Only Lock/Reserve changes it
+ * pool           lent, 576 bytes: the bytes of unfinished datagrams. Keep them as they are between calls
+ * reception      lent; the reception state. Keep it as it is between calls
+ * header         the 29-bit CAN header
+ * payload        lent; the frame's data. Any length may be handed in: a frame of over 8 bytes is ignored
+ * reply          lent, at least 72 bytes. Written only where the kind is BUJORELM_REPLIED, and then only its first `reply_len` bytes, which
+ *                are at most 72. It need not be cleared, and nothing of it is needed by a later call
  *
- * Every kind can come back. Where it is BUJORELM_REFUSED or BUJORELM_IGNORED, the reception state, the lock, the pool and memory come back
- * as they were. The source to which an answer goes is the low twelve bits of the header.
+ * Every kind can come back. Where it is BUJORELM_REFUSED or BUJORELM_IGNORED, every byte of the reception state, the lock, the pool, memory
+ * and the reply buffer is as it was. The source to which an answer goes is the low twelve bits of the header.
  */
-struct bujorelm_frame_return bujorelm_handle_frame(struct bujorelm_description description, const uint8_t *flash, size_t flash_len,
-                                                   uint8_t *memory, size_t memory_len, struct bujorelm_lock lock, uint8_t *pool,
-                                                   struct bujorelm_reception reception, uint32_t header, const uint8_t *payload,
-                                                   size_t payload_len, uint8_t *reply, size_t reply_len);
+struct bujorelm_numbers bujorelm_handle_frame(uint16_t alias, uint8_t write_lengths, const struct bujorelm_space *spaces,
+                                              size_t spaces_size, const uint8_t *flash, size_t flash_len, uint8_t *memory,
+                                              size_t memory_len, struct bujorelm_lock *lock, uint8_t *pool,
+                                              struct bujorelm_reception *reception, uint32_t header, const uint8_t *payload,
+                                              size_t payload_len, uint8_t *reply, size_t reply_len);
 
 /*
  * Handles a datagram that some other transport has joined already. It needs no reception state and no pool; the rest is as in
  * bujorelm_handle_frame. The kinds that come back are BUJORELM_REFUSED (B1 to B6), BUJORELM_REJECTED, BUJORELM_ACCEPTED and
  * BUJORELM_REPLIED. A datagram of any length may be handed in: one over 72 bytes is rejected with 0x1080.
  */
-struct bujorelm_datagram_return bujorelm_handle_datagram(struct bujorelm_description description, const uint8_t *flash,
-                                                         size_t flash_len, uint8_t *memory, size_t memory_len,
-                                                         struct bujorelm_lock lock, const uint8_t *datagram, size_t datagram_len,
-                                                         uint8_t *reply, size_t reply_len);
+struct bujorelm_numbers bujorelm_handle_datagram(uint16_t alias, uint8_t write_lengths, const struct bujorelm_space *spaces,
+                                                 size_t spaces_size, const uint8_t *flash, size_t flash_len, uint8_t *memory,
+                                                 size_t memory_len, struct bujorelm_lock *lock, const uint8_t *datagram,
+                                                 size_t datagram_len, uint8_t *reply, size_t reply_len);
 
-/* Cuts a datagram into the frames that take it from the source alias to the destination alias. Refused, by B9, where it has more than 72
-   bytes or an alias is over 4,095; no other house number is tested. */
-struct bujorelm_cut_frames bujorelm_cut(const uint8_t *datagram, size_t datagram_len, uint16_t destination, uint16_t source);
+/* Cuts a datagram into the frames that take it from the source alias to the destination alias. `frames` is lent and has room for nine.
+   Returns how many were made, 1 to 9, to be sent in their order; the room behind them is left as it was. Refused, by B9, where the
+   datagram has more than 72 bytes or an alias is over 4,095: then it returns 0, and `frames` is untouched. No other house number is
+   tested. */
+size_t bujorelm_cut(const uint8_t *datagram, size_t datagram_len, uint16_t destination, uint16_t source, struct bujorelm_frame *frames);
 
-/* The frame of Received OK with its flags, from the board's alias to the tool's. Refused where an alias is over 4,095. */
-struct bujorelm_transport_reply bujorelm_received_ok(uint16_t board, uint16_t tool, uint8_t flags);
+/* Makes the frame of Received OK with its flags, from the board's alias to the tool's, and returns 1. Where an alias is over 4,095 there is
+   no such frame: then it returns 0 and `frame` is untouched. */
+size_t bujorelm_received_ok(uint16_t board, uint16_t tool, uint8_t flags, struct bujorelm_frame *frame);
 
-/* The frame of Rejected with its code, from the board's alias to the tool's. Refused where an alias is over 4,095. */
-struct bujorelm_transport_reply bujorelm_rejected(uint16_t board, uint16_t tool, uint16_t code);
+/* The same for the frame of Rejected with its code. */
+size_t bujorelm_rejected(uint16_t board, uint16_t tool, uint16_t code, struct bujorelm_frame *frame);
 
 /* Reads a GridConnect line, without its newline: `:X`, eight header digits, `N`, 0 to 16 data digits in pairs, `;`, the digits being 0-9
    and A-F. Any other text is not good. Headers over 29 bits are good here and are ignored by bujorelm_handle_frame. */
@@ -367,12 +328,12 @@ struct bujorelm_parsed bujorelm_parse_line(const uint8_t *line, size_t line_len)
    not fit, or the frame's `len` is over 8, nothing is written and `at` is returned. No zero byte is put behind it. */
 size_t bujorelm_print_frame(struct bujorelm_frame frame, uint8_t *out, size_t out_len, size_t at);
 
-/* ---- Inline functions, which spare the caller the handing of structs to and fro ---- */
+/* ---- Inline functions, which hand over a board that lies in one struct ---- */
 
 /*
- * A board with all that it keeps between calls. `flash` and `memory` stay the caller's: they must outlive the node, at the same place.
- * The fields are open to the caller, who may read them between calls and may replace the description (as when the alias changes; set the
- * reception state to bujorelm_new_reception() then, since what is unfinished was sent to the old alias).
+ * A board with all that it keeps between calls. The table of spaces, `flash` and `memory` stay the caller's: they must outlive the node, at
+ * the same place. The fields are open to the caller, who may read them between calls and may replace the description (as when the alias
+ * changes; set the reception state to all zero then, since what is unfinished was sent to the old alias).
  */
 struct bujorelm_node {
     struct bujorelm_description description;
@@ -389,11 +350,21 @@ struct bujorelm_node {
    alone. Returns false where the frame cannot be taken; the ones behind it are then not offered. */
 typedef bool bujorelm_send(void *context, const struct bujorelm_frame *frame);
 
-/* A fresh node: lock memory zero, nothing unfinished. The description is copied, flash and memory are not. Nothing is tested here: a bad
-   description is refused at the first call. */
+/* The size in bytes of a table of so many spaces, for a call's `spaces_size`. Any count over 16 gives the size of 17 spaces, which B1
+   refuses without a look at the table: 16 times a very large count would wrap, and could come out as the size of a good table. */
+static inline size_t bujorelm_spaces_size(size_t count)
+{
+    const size_t most = BUJORELM_SPACES_MAX + 1u;
+
+    return (count < most ? count : most) * sizeof(struct bujorelm_space);
+}
+
+/* A fresh node: lock memory zero, nothing unfinished. The description is copied, but for the table of spaces; flash and memory are not.
+   Nothing is tested here: a bad description is refused at the first call. */
 static inline void bujorelm_node_start(struct bujorelm_node *node, const struct bujorelm_description *description,
                                        const uint8_t *flash, size_t flash_len, uint8_t *memory, size_t memory_len)
 {
+    uint8_t *const places = (uint8_t *)&node->reception;
     size_t i;
 
     node->description = *description;
@@ -404,10 +375,31 @@ static inline void bujorelm_node_start(struct bujorelm_node *node, const struct 
     for (i = 0; i < sizeof node->lock.bytes; i++) {
         node->lock.bytes[i] = 0;
     }
-    node->reception = bujorelm_new_reception();
+    for (i = 0; i < sizeof node->reception; i++) {
+        places[i] = 0;
+    }
     for (i = 0; i < sizeof node->pool; i++) {
         node->pool[i] = 0;
     }
+}
+
+/* bujorelm_handle_frame for a node. */
+static inline struct bujorelm_numbers bujorelm_node_handle_frame(struct bujorelm_node *node, uint32_t header, const uint8_t *payload,
+                                                                 size_t payload_len, uint8_t *reply, size_t reply_len)
+{
+    return bujorelm_handle_frame(node->description.alias, node->description.write_lengths, node->description.spaces,
+                                 bujorelm_spaces_size(node->description.count), node->flash, node->flash_len, node->memory,
+                                 node->memory_len, &node->lock, node->pool, &node->reception, header, payload, payload_len, reply,
+                                 reply_len);
+}
+
+/* bujorelm_handle_datagram for a node. */
+static inline struct bujorelm_numbers bujorelm_node_handle_datagram(struct bujorelm_node *node, const uint8_t *datagram,
+                                                                    size_t datagram_len, uint8_t *reply, size_t reply_len)
+{
+    return bujorelm_handle_datagram(node->description.alias, node->description.write_lengths, node->description.spaces,
+                                    bujorelm_spaces_size(node->description.count), node->flash, node->flash_len, node->memory,
+                                    node->memory_len, &node->lock, datagram, datagram_len, reply, reply_len);
 }
 
 /* The first house number that applies to the node as it stands, or BUJORELM_HOUSE_NONE: a test for the start of the firmware, so that a
@@ -417,34 +409,7 @@ static inline uint8_t bujorelm_node_check(struct bujorelm_node *node)
     uint8_t reply[BUJORELM_REPLY_MIN];
 
     /* Header 0 is no datagram frame, so a good node ignores it. */
-    return bujorelm_handle_frame(node->description, node->flash, node->flash_len, node->memory, node->memory_len, node->lock, node->pool,
-                                 node->reception, 0, NULL, 0, reply, sizeof reply)
-        .answer.house;
-}
-
-/* bujorelm_handle_frame for a node: the reception state and the lock memory are stored back. */
-static inline struct bujorelm_numbers bujorelm_node_handle_frame(struct bujorelm_node *node, uint32_t header, const uint8_t *payload,
-                                                                 size_t payload_len, uint8_t *reply, size_t reply_len)
-{
-    const struct bujorelm_frame_return done =
-        bujorelm_handle_frame(node->description, node->flash, node->flash_len, node->memory, node->memory_len, node->lock, node->pool,
-                              node->reception, header, payload, payload_len, reply, reply_len);
-
-    node->reception = done.reception;
-    node->lock = done.lock;
-    return done.answer;
-}
-
-/* bujorelm_handle_datagram for a node: the lock memory is stored back. */
-static inline struct bujorelm_numbers bujorelm_node_handle_datagram(struct bujorelm_node *node, const uint8_t *datagram,
-                                                                    size_t datagram_len, uint8_t *reply, size_t reply_len)
-{
-    const struct bujorelm_datagram_return done =
-        bujorelm_handle_datagram(node->description, node->flash, node->flash_len, node->memory, node->memory_len, node->lock, datagram,
-                                 datagram_len, reply, reply_len);
-
-    node->lock = done.lock;
-    return done.answer;
+    return bujorelm_node_handle_frame(node, 0, NULL, 0, reply, sizeof reply).house;
 }
 
 /* The source alias of a header. */
@@ -459,38 +424,35 @@ static inline uint16_t bujorelm_source_of(uint32_t header)
 static inline bool bujorelm_send_answer(uint16_t board, uint16_t tool, const struct bujorelm_numbers *answer, const uint8_t *reply,
                                         bujorelm_send *send, void *context)
 {
-    struct bujorelm_transport_reply first;
-    struct bujorelm_cut_frames rest;
+    struct bujorelm_frame frames[BUJORELM_FRAMES_MAX];
+    size_t count;
     size_t i;
 
     switch (answer->kind) {
     case BUJORELM_TRANSPORT_REFUSAL:
     case BUJORELM_REJECTED:
-        first = bujorelm_rejected(board, tool, answer->code);
+        count = bujorelm_rejected(board, tool, answer->code, frames);
         break;
     case BUJORELM_ACCEPTED:
     case BUJORELM_REPLIED:
-        first = bujorelm_received_ok(board, tool, answer->flags);
+        count = bujorelm_received_ok(board, tool, answer->flags, frames);
         break;
     default:
         return true;
     }
-    if (first.refused || !send(context, &first.frame)) {
+    if (count == 0 || !send(context, frames)) {
         return false;
     }
     if (answer->kind != BUJORELM_REPLIED) {
         return true;
     }
-    rest = bujorelm_cut(reply, answer->reply_len, tool, board);
-    if (rest.refused) {
-        return false;
-    }
-    for (i = 0; i < rest.count; i++) {
-        if (!send(context, &rest.frames[i])) {
+    count = bujorelm_cut(reply, answer->reply_len, tool, board, frames);
+    for (i = 0; i < count; i++) {
+        if (!send(context, &frames[i])) {
             return false;
         }
     }
-    return true;
+    return count != 0;
 }
 
 /* A received frame from its arrival to the frames that answer it. What came of it is stored to `answer`, which may be NULL. Returns what

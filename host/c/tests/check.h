@@ -137,6 +137,16 @@ static inline struct guarded guarded_new(size_t len, bool at_start)
     return g;
 }
 
+/* The buffer may only be read from now on. */
+static inline void guarded_read_only(const struct guarded *g)
+{
+    const size_t page = (size_t)sysconf(_SC_PAGESIZE);
+
+    if (mprotect((uint8_t *)g->pages + page, g->pages_len - 2 * page, PROT_READ) != 0) {
+        give_up("mprotect");
+    }
+}
+
 static inline void guarded_free(struct guarded *g)
 {
     if (munmap(g->pages, g->pages_len) != 0) {

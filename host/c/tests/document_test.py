@@ -47,13 +47,17 @@ def main():
         expect(output(["./board"], cwd=folder), outputs[0], "what the program prints")
         expect(output(["sh", "-eu", "-c", shell[2]], cwd=folder), outputs[1], "what the host prints")
 
-    # The figures of the stack. They differ a little between compilers, so only the bounds must agree to the byte.
+    # The figures of the stack. They differ a little between compilers, so only the calls and the bound must agree.
     with open(os.path.join(ROOT, "host/c/tests/stack.c"), encoding="utf-8") as file:
-        bounds = re.findall(r'^    \{"([^"]+)", \w+, (\d+)\},$', file.read(), re.M)
-    rows = re.findall(r"^\| (`bujorelm_.*?) \| ([\d,]+) \| ([\d,]+) \|$", text, re.M)
-    expect([row[2].replace(",", "") for row in rows], [bound for _, bound in bounds], "the bounds of the stack")
-    for (name, _), row in zip(bounds, rows):
-        expect(f"`{name.split(',')[0].split(' ')[0]}`" in row[0], True, f"the row of {name}")
+        test = file.read()
+    calls = re.findall(r'^    \{"(\w+)", call_\w+\},$', test, re.M)
+    bound = int(re.search(r"^#define BOUND (\d+)u$", test, re.M).group(1))
+    rows = re.findall(r"^\| `(bujorelm_\w+)` \|((?: [\d,]+ \|){5})$", text, re.M)
+    expect([name for name, _ in rows], calls, "the calls in the table of the stack")
+    for name, row in rows:
+        figures = [int(figure.replace(",", "")) for figure in re.findall(r"[\d,]+", row)]
+        expect(max(figures) <= bound, True, f"the figures of {name} within the bound")
+    expect(f"fails above {bound:,} bytes" in text, True, "the bound in the document")
     print("document_test.py: docs/DRIVER.md holds")
 
 

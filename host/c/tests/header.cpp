@@ -11,6 +11,7 @@ static bool count_frame(void *context, const struct bujorelm_frame *)
 
 int main()
 {
+    static const bujorelm_space spaces[] = {{0xFD, false, false, 0, 3, 0}, {0xFF, true, false, 0, 3, 0}};
     static bujorelm_node node;
     bujorelm_description description = bujorelm_description();
     uint8_t memory[4] = {0, 0, 0, 0};
@@ -19,6 +20,8 @@ int main()
     int frames = 0;
 
     description.alias = 0x22B;
+    description.count = sizeof spaces / sizeof spaces[0];
+    description.spaces = spaces;
     bujorelm_node_start(&node, &description, NULL, 0, memory, sizeof memory);
     if (bujorelm_node_check(&node) != BUJORELM_HOUSE_NONE ||
         !bujorelm_node_receive(&node, 0x1A22B123, options, sizeof options, count_frame, &frames, &answer) ||

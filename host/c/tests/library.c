@@ -1,6 +1,7 @@
 /*
  * Tests of the library through its C interface: document 01's session and whole datagrams, every house number and transport refusal, the
- * bounds of every lent buffer, the GridConnect functions, the inline functions of the header, and pseudo-random calls.
+ * bounds of every lent buffer, every value of the bytes that say yes or no and of those that mean nothing, the GridConnect functions, the
+ * inline functions of the header, and pseudo-random calls.
  *
  * Usage: library [how many pseudo-random frames]
  */
@@ -11,36 +12,69 @@
 
 #define UNTOUCHED 0xC7
 
+/* A description with a table of its own, to be changed. */
+struct draft {
+    uint16_t alias;
+    uint8_t write_lengths;
+    size_t count;
+    struct bujorelm_space spaces[BUJORELM_SPACES_MAX];
+};
+
+static struct draft draft_demonstration(void)
+{
+    struct draft d;
+
+    memset(&d, 0, sizeof d);
+    d.alias = demonstration_description.alias;
+    d.write_lengths = demonstration_description.write_lengths;
+    d.count = demonstration_description.count;
+    memcpy(d.spaces, demonstration_spaces, sizeof demonstration_spaces);
+    return d;
+}
+
 /* A board whose lent buffers lie between pages that cannot be touched. */
 struct board {
     struct bujorelm_node node;
+    struct guarded table;
     struct guarded flash;
     struct guarded memory;
     struct guarded reply;
 };
 
-static void board_new(struct board *b, const struct bujorelm_description *description, size_t flash_len, size_t memory_len,
-                      size_t reply_len)
+static void board_new(struct board *b, const struct draft *draft, size_t flash_len, size_t memory_len, size_t reply_len)
 {
     /* Now the one end, now the other lies at a guard. */
     static bool at_start;
+    /* Of a table with too many spaces no byte is there to be looked at. */
+    const size_t table_len = draft->count > BUJORELM_SPACES_MAX ? 0 : draft->count * sizeof draft->spaces[0];
+    struct bujorelm_description description;
 
     at_start = !at_start;
+    b->table = guarded_new(table_len, at_start && table_len != 0);
     b->flash = guarded_new(flash_len, at_start);
     b->memory = guarded_new(memory_len, at_start);
     b->reply = guarded_new(reply_len, at_start);
+    memcpy(b->table.bytes, draft->spaces, table_len);
+    guarded_read_only(&b->table);
     memset(b->reply.bytes, UNTOUCHED, reply_len);
-    bujorelm_node_start(&b->node, description, b->flash.bytes, flash_len, b->memory.bytes, memory_len);
+    description.alias = draft->alias;
+    description.write_lengths = draft->write_lengths;
+    description.count = draft->count;
+    description.spaces = (const struct bujorelm_space *)(const void *)b->table.bytes;
+    bujorelm_node_start(&b->node, &description, b->flash.bytes, flash_len, b->memory.bytes, memory_len);
 }
 
 static void board_demonstration(struct board *b)
 {
-    board_new(b, &demonstration_description, sizeof demonstration_flash, DEMONSTRATION_MEMORY_SIZE, BUJORELM_REPLY_MIN);
+    const struct draft d = draft_demonstration();
+
+    board_new(b, &d, sizeof demonstration_flash, DEMONSTRATION_MEMORY_SIZE, BUJORELM_REPLY_MIN);
     memcpy(b->flash.bytes, demonstration_flash, sizeof demonstration_flash);
 }
 
 static void board_free(struct board *b)
 {
+    guarded_free(&b->table);
     guarded_free(&b->flash);
     guarded_free(&b->memory);
     guarded_free(&b->reply);
@@ -67,21 +101,67 @@ static bool is_house(struct bujorelm_numbers a, uint8_t house)
     return is_answer(a, BUJORELM_REFUSED, house, 0, 0, 0);
 }
 
+static bool is_refusal(struct bujorelm_numbers answer, uint16_t code)
+{
+    return is_answer(answer, BUJORELM_TRANSPORT_REFUSAL, 0, 0, code, 0);
+}
+
+static bool is_joined(struct bujorelm_numbers answer)
+{
+    return is_answer(answer, BUJORELM_JOINED, 0, 0, 0, 0);
+}
+
+/* Whether every byte is the same, those that mean nothing among them. */
 static bool same_places(const struct bujorelm_reception *a, const struct bujorelm_reception *b)
 {
+    return memcmp(a, b, sizeof *a) == 0;
+}
+
+/* Whether the places say the same: two that hold nothing do, whatever else is in them. */
+static bool says_the_same(const struct bujorelm_place *a, const struct bujorelm_place *b)
+{
+    if (a->held == 0 || b->held == 0) {
+        return a->held == b->held;
+    }
+    return a->len == b->len && a->source == b->source;
+}
+
+/* Whether the place has just the bytes that a call gives to one that it changes. */
+static bool is_canonical(const struct bujorelm_place *p)
+{
+    static const uint8_t zeros[sizeof *p] = {0};
+
+    if (p->held == 0) {
+        return memcmp(p, zeros, sizeof *p) == 0;
+    }
+    return p->held == 1 && memcmp(p->unused, zeros, sizeof p->unused) == 0;
+}
+
+/* What holds of every call: at most one place changes, that one has canonical bytes, and all others keep theirs. */
+static bool follows_on(const struct bujorelm_reception *before, const struct bujorelm_reception *after)
+{
+    size_t changed = 0;
+
     for (size_t i = 0; i < BUJORELM_PLACES; i++) {
-        if (a->places[i].held != b->places[i].held || a->places[i].len != b->places[i].len ||
-            a->places[i].source != b->places[i].source) {
+        const struct bujorelm_place *const a = &before->places[i];
+        const struct bujorelm_place *const b = &after->places[i];
+
+        if (!says_the_same(a, b)) {
+            changed++;
+            if (!is_canonical(b)) {
+                return false;
+            }
+        } else if (memcmp(a, b, sizeof *a) != 0) {
             return false;
         }
     }
-    return true;
+    return changed <= 1;
 }
 
 static bool nothing_unfinished(const struct bujorelm_node *node)
 {
     for (size_t i = 0; i < BUJORELM_PLACES; i++) {
-        if (node->reception.places[i].held) {
+        if (node->reception.places[i].held != 0) {
             return false;
         }
     }
@@ -120,57 +200,131 @@ static struct bujorelm_numbers feed_hex(struct board *b, uint32_t top, uint32_t 
 
 /* ---- Layout ---- */
 
-/* What the header asserts of sizes is true of the library too: a field of every struct goes through a call and comes back in its place. */
+/* What is lent and has one size, each between pages that cannot be touched: at the one end of its page or at the other. */
+struct lent {
+    struct guarded lock;
+    struct guarded pool;
+    struct guarded places;
+    struct guarded frames;
+};
+
+static void lent_new(struct lent *l, bool at_start)
+{
+    l->lock = guarded_new(sizeof(struct bujorelm_lock), at_start);
+    l->pool = guarded_new(BUJORELM_POOL_SIZE, at_start);
+    l->places = guarded_new(sizeof(struct bujorelm_reception), at_start);
+    l->frames = guarded_new(BUJORELM_FRAMES_MAX * sizeof(struct bujorelm_frame), at_start);
+    memset(l->lock.bytes, 0, l->lock.len);
+    memset(l->pool.bytes, UNTOUCHED, l->pool.len);
+    memset(l->places.bytes, 0, l->places.len);
+    memset(l->frames.bytes, UNTOUCHED, l->frames.len);
+}
+
+static void lent_free(struct lent *l)
+{
+    guarded_free(&l->lock);
+    guarded_free(&l->pool);
+    guarded_free(&l->places);
+    guarded_free(&l->frames);
+}
+
+static struct bujorelm_reception *places_of(const struct lent *l)
+{
+    return (struct bujorelm_reception *)(void *)l->places.bytes;
+}
+
+static struct bujorelm_frame *frames_of(const struct lent *l)
+{
+    return (struct bujorelm_frame *)(void *)l->frames.bytes;
+}
+
+/* A frame to the demonstration board, by the function of the library itself. */
+static struct bujorelm_numbers feed_lent(const struct board *b, const struct lent *l, uint32_t header, const uint8_t *data, size_t len)
+{
+    return bujorelm_handle_frame(0x22B, 0xF2, b->node.description.spaces, b->table.len, b->flash.bytes, b->flash.len, b->memory.bytes,
+                                 b->memory.len, (struct bujorelm_lock *)(void *)l->lock.bytes, l->pool.bytes, places_of(l), header, data,
+                                 len, b->reply.bytes, b->reply.len);
+}
+
+/* What the header asserts of sizes is true of the library too: a field of every struct goes over and comes back in its place, and nothing
+   is touched beside what is lent. */
 static void test_layout(void)
 {
-    struct board b;
-    struct bujorelm_reception state = bujorelm_new_reception();
-    struct bujorelm_frame_return done;
-    uint8_t pool[BUJORELM_POOL_SIZE + 8];
-    struct bujorelm_cut_frames cut;
     static const uint8_t eight[8] = {1, 2, 3, 4, 5, 6, 7, 8};
+    /* As bytes, and not by the header's structs: Middle to 0x22B, of 0x123, in place 7; and the frame that 8 bytes are cut into. */
+    static const uint8_t place_0[8] = {1, 72, 0xFF, 0x0F, 0, 0, 0, 0};
+    static const uint8_t place_7[8] = {1, 64, 0x23, 0x01, 0, 0, 0, 0};
+    static const uint8_t place_7_after[8] = {1, 72, 0x23, 0x01, 0, 0, 0, 0};
+    static const uint8_t single[16] = {0xEF, 0xCD, 0xAB, 0x1A, 8, 0, 0, 0, 1, 2, 3, 4, 5, 6, 7, 8};
+    static const uint8_t received_ok[16] = {0x2B, 0x82, 0xA2, 0x19, 3, 0, 0, 0, 0x0F, 0x23, 0x80, 0, 0, 0, 0, 0};
+    static const uint8_t locked[8] = {0x20, 0x88, 1, 2, 3, 4, 5, 6};
 
-    /* docs/DRIVER.md says so. */
-    CHECK(sizeof b.node == 920);
-    for (size_t i = 0; i < BUJORELM_PLACES; i++) {
-        CHECK(!state.places[i].held && state.places[i].len == 0 && state.places[i].source == 0);
+    for (int at_start = 0; at_start < 2; at_start++) {
+        struct board b;
+        struct lent l;
+        struct bujorelm_numbers answer;
+        uint8_t places[64];
+
+        /* docs/DRIVER.md says so. */
+        CHECK(sizeof b.node == 704 && sizeof b.node.description == 24);
+        board_demonstration(&b);
+        lent_new(&l, at_start != 0);
+        memcpy(l.places.bytes, place_0, 8);
+        memcpy(l.places.bytes + 56, place_7, 8);
+        memcpy(places, l.places.bytes, 64);
+        memcpy(places + 56, place_7_after, 8);
+        answer = feed_lent(&b, &l, header_of(MIDDLE, 0x22B, 0x123), eight, 8);
+        CHECK(is_answer(answer, BUJORELM_JOINED, 0, 0, 0, 0));
+        CHECK(memcmp(l.places.bytes, places, 64) == 0);
+        /* The data went to the end of the pool, and nothing else was touched. */
+        CHECK(is_untouched(l.pool.bytes, 0, 568) && memcmp(l.pool.bytes + 568, eight, 8) == 0);
+
+        /* The lock is changed where it lies. */
+        answer = feed_lent(&b, &l, header_of(SINGLE, 0x22B, 0x124), locked, 8);
+        CHECK(is_answer(answer, BUJORELM_REPLIED, 0, 0x80, 0, 8));
+        CHECK(memcmp(l.lock.bytes, locked + 2, 6) == 0);
+        CHECK(memcmp(l.places.bytes, places, 64) == 0);
+
+        CHECK(bujorelm_cut(eight, 8, 0xABC, 0xDEF, frames_of(&l)) == 1);
+        CHECK(memcmp(l.frames.bytes, single, 16) == 0 && is_untouched(l.frames.bytes, 16, l.frames.len));
+        CHECK(frames_of(&l)->header == 0x1AABCDEFu && frames_of(&l)->len == 8);
+        /* At the end of the room for frames, so that the page behind it is the next byte. */
+        memset(l.frames.bytes, UNTOUCHED, l.frames.len);
+        CHECK(bujorelm_received_ok(0x22B, 0xF23, 0x80, &frames_of(&l)[8]) == 1);
+        CHECK(is_untouched(l.frames.bytes, 0, 128) && memcmp(l.frames.bytes + 128, received_ok, 16) == 0);
+        CHECK(bujorelm_rejected(0x22B, 0xF23, 0x2040, &frames_of(&l)[8]) == 1);
+        CHECK(is_untouched(l.frames.bytes, 0, 128) && frames_of(&l)[8].header == 0x19A4822Bu);
+        lent_free(&l);
+        board_free(&b);
     }
+}
 
-    board_demonstration(&b);
-    memset(pool, UNTOUCHED, sizeof pool);
-    state.places[0] = (struct bujorelm_place){.held = true, .len = 72, .source = 0xFFF};
-    state.places[7] = (struct bujorelm_place){.held = true, .len = 64, .source = 0x123};
-    b.node.lock = (struct bujorelm_lock){{1, 2, 3, 4, 5, 6}};
-    done = bujorelm_handle_frame(b.node.description, b.flash.bytes, b.flash.len, b.memory.bytes, b.memory.len, b.node.lock, pool, state,
-                                 header_of(MIDDLE, 0x22B, 0x123), eight, 8, b.reply.bytes, b.reply.len);
-    CHECK(is_answer(done.answer, BUJORELM_JOINED, 0, 0, 0, 0));
-    CHECK(done.reception.places[0].held && done.reception.places[0].len == 72 && done.reception.places[0].source == 0xFFF);
-    CHECK(done.reception.places[7].held && done.reception.places[7].len == 72 && done.reception.places[7].source == 0x123);
-    for (size_t i = 1; i < 7; i++) {
-        CHECK(!done.reception.places[i].held);
-    }
-    CHECK(memcmp(done.lock.bytes, b.node.lock.bytes, 6) == 0);
-    /* The pool is a bare pointer to 576 bytes: the data went to its end, and nothing else was touched. */
-    CHECK(is_untouched(pool, 0, 568) && memcmp(pool + 568, eight, 8) == 0 && is_untouched(pool, 576, sizeof pool));
+/* An empty buffer may have no address. */
+static void test_empty_buffers(void)
+{
+    struct bujorelm_lock lock = {{0}};
+    struct bujorelm_reception reception;
+    struct bujorelm_frame frames[BUJORELM_FRAMES_MAX];
+    uint8_t pool[BUJORELM_POOL_SIZE];
+    uint8_t reply[BUJORELM_REPLY_MIN];
+    struct bujorelm_numbers answer;
 
-    cut = bujorelm_cut(eight, 8, 0xABC, 0xDEF);
-    CHECK(!cut.refused && cut.count == 1 && cut.frames[0].header == 0x1AABCDEFu && cut.frames[0].len == 8);
-    CHECK(memcmp(cut.frames[0].bytes, eight, 8) == 0);
-
-    /* An empty buffer may have no address. The pages below are lent as empty too, and would fault if they were read. */
-    done = bujorelm_handle_frame(b.node.description, b.flash.bytes, b.flash.len, b.memory.bytes, b.memory.len, b.node.lock, pool,
-                                 bujorelm_new_reception(), header_of(SINGLE, 0x22B, 0x123), NULL, 0, b.reply.bytes, b.reply.len);
-    CHECK(is_answer(done.answer, BUJORELM_REJECTED, 0, 0, 0x1080, 0));
-    b.node.description.count = 0;
-    done = bujorelm_handle_frame(b.node.description, NULL, 0, NULL, 0, b.node.lock, pool, bujorelm_new_reception(),
-                                 header_of(SINGLE, 0x22B, 0x123), (const uint8_t *)"\x20\x80", 2, b.reply.bytes, b.reply.len);
-    CHECK(is_answer(done.answer, BUJORELM_REPLIED, 0, 0x80, 0, 7));
-    done = bujorelm_handle_frame(b.node.description, NULL, 0, NULL, 0, b.node.lock, pool, bujorelm_new_reception(), 0, NULL, 0, NULL, 0);
-    CHECK(is_house(done.answer, BUJORELM_HOUSE_B6));
-    CHECK(bujorelm_cut(NULL, 0, 1, 2).count == 1);
+    memset(&reception, 0, sizeof reception);
+    memset(frames, 0, sizeof frames);
+    memset(pool, 0, sizeof pool);
+    answer = bujorelm_handle_frame(0x22B, 0, NULL, 0, NULL, 0, NULL, 0, &lock, pool, &reception, header_of(SINGLE, 0x22B, 0x123), NULL, 0,
+                                   reply, sizeof reply);
+    CHECK(is_answer(answer, BUJORELM_REJECTED, 0, 0, 0x1080, 0));
+    answer = bujorelm_handle_frame(0x22B, 0, NULL, 0, NULL, 0, NULL, 0, &lock, pool, &reception, header_of(SINGLE, 0x22B, 0x123),
+                                   (const uint8_t *)"\x20\x80", 2, reply, sizeof reply);
+    CHECK(is_answer(answer, BUJORELM_REPLIED, 0, 0x80, 0, 7));
+    answer = bujorelm_handle_frame(0x22B, 0, NULL, 0, NULL, 0, NULL, 0, &lock, pool, &reception, 0, NULL, 0, NULL, 0);
+    CHECK(is_house(answer, BUJORELM_HOUSE_B6));
+    answer = bujorelm_handle_datagram(0x22B, 0, NULL, 0, NULL, 0, NULL, 0, &lock, NULL, 0, reply, sizeof reply);
+    CHECK(is_answer(answer, BUJORELM_REJECTED, 0, 0, 0x1080, 0));
+    CHECK(bujorelm_cut(NULL, 0, 1, 2, frames) == 1 && frames[0].header == 0x1A001002u && frames[0].len == 0);
     CHECK(!bujorelm_parse_line(NULL, 0).good);
-    CHECK(bujorelm_print_frame(cut.frames[0], NULL, 0, 0) == 0);
-    board_free(&b);
+    CHECK(bujorelm_print_frame(frames[0], NULL, 0, 0) == 0);
 }
 
 /* ---- Document 01's session ---- */
@@ -340,13 +494,14 @@ static void check_case(const struct datagram_case *c, const struct board *b, str
 /* Sends a datagram in frames that the library cuts, and returns the answer to the last of them. */
 static struct bujorelm_numbers feed_cut(struct board *b, const uint8_t *datagram, size_t len, uint16_t source)
 {
-    const struct bujorelm_cut_frames cut = bujorelm_cut(datagram, len, b->node.description.alias, source);
+    struct bujorelm_frame frames[BUJORELM_FRAMES_MAX];
+    const size_t count = bujorelm_cut(datagram, len, b->node.description.alias, source, frames);
     struct bujorelm_numbers answer = {0, 0, 0, 0, 0};
 
-    CHECK(!cut.refused);
-    for (size_t i = 0; i < cut.count; i++) {
-        answer = feed(b, cut.frames[i].header, cut.frames[i].bytes, cut.frames[i].len);
-        if (i + 1 < cut.count) {
+    CHECK(count != 0);
+    for (size_t i = 0; i < count; i++) {
+        answer = feed(b, frames[i].header, frames[i].bytes, frames[i].len);
+        if (i + 1 < count) {
             CHECK(is_answer(answer, BUJORELM_JOINED, 0, 0, 0, 0));
             CHECK(is_untouched(b->reply.bytes, 0, b->reply.len));
         }
@@ -380,7 +535,7 @@ static void test_datagrams(void)
 static void test_longest(void)
 {
     struct board b;
-    struct bujorelm_description d = demonstration_description;
+    struct draft d = draft_demonstration();
     uint8_t datagram[80];
     struct bujorelm_numbers answer;
 
@@ -451,7 +606,7 @@ static void test_left_out(void)
         {"2080", "2082E00000FFFD"},             {"2040000000001001", "205800000000101081"},
     };
     struct board b;
-    struct bujorelm_description none;
+    struct draft none;
 
     memset(&none, 0, sizeof none);
     none.alias = 1;
@@ -496,20 +651,23 @@ static void check_refused(struct board *b, uint8_t house, bool datagrams, const 
     free(memory);
 }
 
-static void check_description_refused(const struct bujorelm_description *d, size_t flash_len, size_t memory_len, size_t reply_len,
-                                      uint8_t house, const char *word)
+static void check_draft_refused(const struct draft *d, size_t flash_len, size_t memory_len, size_t reply_len, uint8_t house,
+                                const char *word)
 {
     struct board b;
 
     board_new(&b, d, flash_len, memory_len, reply_len);
-    /* The state is bad as well: B7 comes after all the others. */
-    b.node.reception.places[3] = (struct bujorelm_place){.held = true, .len = 73, .source = 5};
+    /* The state is bad as well: B7 comes after all the others. No byte of it may change. */
+    for (size_t i = 0; i < BUJORELM_PLACES; i++) {
+        b.node.reception.places[i] = (struct bujorelm_place){
+            .held = (uint8_t)(i == 4 ? 0 : 0xAA + i), .len = (uint8_t)(70 + i), .source = 5, .unused = {(uint8_t)i, 2, 3, 0xFF}};
+    }
     b.node.lock.bytes[2] = 9;
     check_refused(&b, house, true, word);
     board_free(&b);
 }
 
-static void check_accepted(const struct bujorelm_description *d, size_t flash_len, size_t memory_len, const char *word)
+static void check_accepted(const struct draft *d, size_t flash_len, size_t memory_len, const char *word)
 {
     struct board b;
 
@@ -521,26 +679,30 @@ static void check_accepted(const struct bujorelm_description *d, size_t flash_le
 
 static void test_house_numbers(void)
 {
-    const struct bujorelm_description good = demonstration_description;
-    struct bujorelm_description d;
+    const struct draft good = draft_demonstration();
+    struct draft d;
 
     check_accepted(&good, 16, 48, "the demonstration board");
 
     d = good;
     d.count = 17;
-    check_description_refused(&d, 16, 48, 72, 1, "17 spaces");
+    check_draft_refused(&d, 16, 48, 72, 1, "17 spaces");
     d.count = SIZE_MAX;
-    check_description_refused(&d, 16, 48, 72, 1, "more spaces than can be");
+    check_draft_refused(&d, 16, 48, 72, 1, "more spaces than can be");
+    d.count = SIZE_MAX / 16 + 1;
+    check_draft_refused(&d, 16, 48, 72, 1, "so many spaces that 16 times their number wraps to 0");
+    d.count = SIZE_MAX / 16 + 1 + 4;
+    check_draft_refused(&d, 16, 48, 72, 1, "so many spaces that 16 times their number wraps to 64");
     d = good;
-    check_description_refused(&d, 65537, 48, 72, 1, "flash of 65,537 bytes");
-    check_description_refused(&d, 16, 65537, 72, 1, "memory of 65,537 bytes");
+    check_draft_refused(&d, 65537, 48, 72, 1, "flash of 65,537 bytes");
+    check_draft_refused(&d, 16, 65537, 72, 1, "memory of 65,537 bytes");
     check_accepted(&d, 65536, 65536, "65,536 bytes of both");
     d.alias = 0;
-    check_description_refused(&d, 16, 48, 72, 1, "alias 0");
+    check_draft_refused(&d, 16, 48, 72, 1, "alias 0");
     d.alias = 4096;
-    check_description_refused(&d, 16, 48, 72, 1, "alias 4,096");
+    check_draft_refused(&d, 16, 48, 72, 1, "alias 4,096");
     d.alias = 0xFFFF;
-    check_description_refused(&d, 16, 48, 72, 1, "alias 65,535");
+    check_draft_refused(&d, 16, 48, 72, 1, "alias 65,535");
     d.alias = 4095;
     check_accepted(&d, 16, 48, "alias 4,095");
     d.alias = 1;
@@ -548,35 +710,35 @@ static void test_house_numbers(void)
 
     d = good;
     d.spaces[1].lowest = 0x30;
-    check_description_refused(&d, 16, 48, 72, 2, "lowest above highest");
+    check_draft_refused(&d, 16, 48, 72, 2, "lowest above highest");
     d.spaces[1].lowest = 0x2F;
     d.spaces[1].offset = 47;
     check_accepted(&d, 16, 48, "a space of one byte at the end of memory");
     d.spaces[1].offset = 48;
-    check_description_refused(&d, 16, 48, 72, 3, "a space of one byte past the end of memory");
+    check_draft_refused(&d, 16, 48, 72, 3, "a space of one byte past the end of memory");
     d = good;
-    check_description_refused(&d, 16, 47, 72, 3, "memory a byte short");
-    check_description_refused(&d, 15, 48, 72, 3, "flash a byte short");
+    check_draft_refused(&d, 16, 47, 72, 3, "memory a byte short");
+    check_draft_refused(&d, 15, 48, 72, 3, "flash a byte short");
     d.spaces[0].offset = UINT32_MAX;
-    check_description_refused(&d, 16, 48, 72, 3, "the greatest offset");
+    check_draft_refused(&d, 16, 48, 72, 3, "the greatest offset");
     d.spaces[0].highest = UINT32_MAX;
-    check_description_refused(&d, 16, 48, 72, 3, "the greatest offset of the greatest space");
+    check_draft_refused(&d, 16, 48, 72, 3, "the greatest offset of the greatest space");
 
     d = good;
     d.spaces[2].read_only = false;
-    check_description_refused(&d, 16, 48, 72, 4, "writable in flash");
+    check_draft_refused(&d, 16, 48, 72, 4, "writable in flash");
     d.spaces[2].in_flash = false;
-    check_description_refused(&d, 16, 48, 72, 4, "0xFF writable in memory");
+    check_draft_refused(&d, 16, 48, 72, 4, "0xFF writable in memory");
     d.spaces[2].read_only = true;
     check_accepted(&d, 16, 48, "0xFF read-only in memory");
     d = good;
     d.spaces[3].in_flash = true;
     d.spaces[3].offset = 0;
-    check_description_refused(&d, 16, 48, 72, 4, "another space writable in flash");
+    check_draft_refused(&d, 16, 48, 72, 4, "another space writable in flash");
 
     d = good;
     d.spaces[3].number = 0xFD;
-    check_description_refused(&d, 16, 48, 72, 5, "a number twice");
+    check_draft_refused(&d, 16, 48, 72, 5, "a number twice");
     d.count = 3;
     check_accepted(&d, 16, 48, "the second of them not described");
     d = good;
@@ -587,7 +749,7 @@ static void test_house_numbers(void)
     d.count = 16;
     check_accepted(&d, 16, 48, "16 spaces");
     d.spaces[15].number = 0;
-    check_description_refused(&d, 16, 48, 72, 5, "the sixteenth as the first");
+    check_draft_refused(&d, 16, 48, 72, 5, "the sixteenth as the first");
 
     /* The first that applies: B1 before all; one space after the other; within a space B2, B3, B4, B5; then B6. */
     d = good;
@@ -597,22 +759,22 @@ static void test_house_numbers(void)
     d.spaces[1].lowest = 0x30;
     d.spaces[3].lowest = 0x110;
     d.alias = 0;
-    check_description_refused(&d, 16, 48, 71, 1, "B1 first");
+    check_draft_refused(&d, 16, 48, 71, 1, "B1 first");
     d.alias = 1;
-    check_description_refused(&d, 16, 48, 71, 2, "then B2");
+    check_draft_refused(&d, 16, 48, 71, 2, "then B2");
     d.spaces[1].lowest = 0;
-    check_description_refused(&d, 16, 48, 71, 3, "then B3");
+    check_draft_refused(&d, 16, 48, 71, 3, "then B3");
     d.spaces[1].highest = 0;
     d.spaces[1].offset = 0;
-    check_description_refused(&d, 16, 48, 71, 4, "then B4");
+    check_draft_refused(&d, 16, 48, 71, 4, "then B4");
     d.spaces[1].in_flash = false;
-    check_description_refused(&d, 16, 48, 71, 5, "then B5, before the last space's B2");
+    check_draft_refused(&d, 16, 48, 71, 5, "then B5, before the last space's B2");
     d.spaces[1].number = 0xFE;
-    check_description_refused(&d, 16, 48, 71, 2, "then the last space's B2");
+    check_draft_refused(&d, 16, 48, 71, 2, "then the last space's B2");
     d.spaces[3].lowest = 0x100;
-    check_description_refused(&d, 16, 48, 71, 6, "then B6");
-    check_description_refused(&d, 16, 48, 1, 6, "B6 of one byte");
-    check_description_refused(&d, 16, 48, 0, 6, "B6 of none");
+    check_draft_refused(&d, 16, 48, 71, 6, "then B6");
+    check_draft_refused(&d, 16, 48, 1, 6, "B6 of one byte");
+    check_draft_refused(&d, 16, 48, 0, 6, "B6 of none");
 }
 
 static void test_bad_states(void)
@@ -620,19 +782,19 @@ static void test_bad_states(void)
     struct board b;
 
     board_demonstration(&b);
-    b.node.reception.places[7] = (struct bujorelm_place){.held = true, .len = 73, .source = 1};
+    b.node.reception.places[7] = (struct bujorelm_place){.held = 1, .len = 73, .source = 1};
     check_refused(&b, BUJORELM_HOUSE_B7, false, "73 bytes");
     CHECK(bujorelm_node_check(&b.node) == BUJORELM_HOUSE_B7);
-    b.node.reception.places[7] = (struct bujorelm_place){.held = true, .len = 255, .source = 1};
+    b.node.reception.places[7] = (struct bujorelm_place){.held = 1, .len = 255, .source = 1};
     check_refused(&b, BUJORELM_HOUSE_B7, false, "255 bytes");
-    b.node.reception.places[7] = (struct bujorelm_place){.held = true, .len = 0, .source = 4096};
+    b.node.reception.places[7] = (struct bujorelm_place){.held = 1, .len = 0, .source = 4096};
     check_refused(&b, BUJORELM_HOUSE_B7, false, "source 4,096");
-    b.node.reception.places[7] = (struct bujorelm_place){.held = true, .len = 72, .source = 4095};
+    b.node.reception.places[7] = (struct bujorelm_place){.held = 1, .len = 72, .source = 4095};
     CHECK(bujorelm_node_check(&b.node) == BUJORELM_HOUSE_NONE);
-    b.node.reception.places[0] = (struct bujorelm_place){.held = true, .len = 3, .source = 4095};
+    b.node.reception.places[0] = (struct bujorelm_place){.held = 1, .len = 3, .source = 4095};
     check_refused(&b, BUJORELM_HOUSE_B7, false, "one source twice");
     /* A place that holds nothing is not looked at. */
-    b.node.reception.places[0] = (struct bujorelm_place){.held = false, .len = 200, .source = 0xFFFF};
+    b.node.reception.places[0] = (struct bujorelm_place){.held = 0, .len = 200, .source = 0xFFFF};
     CHECK(bujorelm_node_check(&b.node) == BUJORELM_HOUSE_NONE);
     /* A whole datagram asks nothing of the state. */
     b.node.reception.places[7].len = 80;
@@ -640,17 +802,218 @@ static void test_bad_states(void)
     board_free(&b);
 }
 
+/* ---- Bytes that say yes or no, and bytes that mean nothing ---- */
+
+/* Sets a byte of a space by its index, since the one at index 3 has no name. */
+static void set_byte(struct draft *d, size_t space, size_t index, uint8_t byte)
+{
+    memcpy((uint8_t *)&d->spaces[space] + index, &byte, 1);
+}
+
+enum { READ_ONLY_BYTE = 1, IN_FLASH_BYTE = 2, MEANINGLESS_BYTE = 3 };
+
+/* What a board answers to a read of one byte, a write of 0x99 and a question for the flags, of space 0x10 at its lowest address. */
+static void check_space(const struct draft *d, bool read_only, uint8_t content, const char *word)
+{
+    uint8_t read[] = {0x20, 0x50, 0, 0, 1, 0, 0x10, content};
+    uint8_t fails[] = {0x20, 0x18, 0, 0, 1, 0, 0x10, 0x10, 0x83};
+    uint8_t information[] = {0x20, 0x87, 0x10, 0, 0, 1, 0x0F, read_only ? 3 : 2, 0, 0, 1, 0};
+    struct board b;
+
+    board_new(&b, d, 48, 48, BUJORELM_REPLY_MIN);
+    memset(b.flash.bytes, 0xF1, 48);
+    memset(b.memory.bytes, 0x3E, 48);
+    CHECK_CASE(is_answer(feed_hex(&b, SINGLE, 1, "2040000001001001"), BUJORELM_REPLIED, 0, 0x80, 0, sizeof read), word);
+    CHECK_CASE(memcmp(b.reply.bytes, read, sizeof read) == 0, word);
+    CHECK_CASE(is_answer(feed_hex(&b, SINGLE, 1, "208410"), BUJORELM_REPLIED, 0, 0x80, 0, sizeof information), word);
+    CHECK_CASE(memcmp(b.reply.bytes, information, sizeof information) == 0, word);
+    if (read_only) {
+        CHECK_CASE(is_answer(feed_hex(&b, SINGLE, 1, "2000000001001099"), BUJORELM_REPLIED, 0, 0x80, 0, sizeof fails), word);
+        CHECK_CASE(memcmp(b.reply.bytes, fails, sizeof fails) == 0, word);
+        CHECK_CASE(b.memory.bytes[32] == 0x3E, word);
+    } else {
+        CHECK_CASE(is_answer(feed_hex(&b, SINGLE, 1, "2000000001001099"), BUJORELM_ACCEPTED, 0, 0, 0, 0), word);
+        CHECK_CASE(b.memory.bytes[32] == 0x99, word);
+    }
+    board_free(&b);
+}
+
+/* Every byte of the table that says yes or no, with every value, and the byte that means nothing. */
+static void test_table_bytes(void)
+{
+    for (unsigned byte = 0; byte <= 0xFF; byte++) {
+        const uint8_t other = (uint8_t)(byte ^ 0xA5);
+        struct draft d = draft_demonstration();
+        char word[64];
+
+        snprintf(word, sizeof word, "byte 0x%02X", byte);
+        /* In memory, read-only or not. */
+        set_byte(&d, 3, READ_ONLY_BYTE, (uint8_t)byte);
+        set_byte(&d, 3, MEANINGLESS_BYTE, other);
+        check_space(&d, byte != 0, 0x3E, word);
+        /* Read-only, in flash or not. */
+        set_byte(&d, 3, READ_ONLY_BYTE, 0xAA);
+        set_byte(&d, 3, IN_FLASH_BYTE, (uint8_t)byte);
+        check_space(&d, true, byte != 0 ? 0xF1 : 0x3E, word);
+        /* The end that B3 looks for is that of flash or of memory by the same byte. */
+        check_draft_refused(&d, 48, 47, 72, 3, word);
+        if (byte != 0) {
+            check_draft_refused(&d, 47, 48, 72, 3, word);
+        } else {
+            check_accepted(&d, 47, 48, word);
+        }
+        /* B4, by both. */
+        set_byte(&d, 3, READ_ONLY_BYTE, (uint8_t)byte);
+        set_byte(&d, 3, IN_FLASH_BYTE, 0xAA);
+        if (byte != 0) {
+            check_accepted(&d, 48, 48, word);
+        } else {
+            check_draft_refused(&d, 48, 48, 72, 4, word);
+        }
+        set_byte(&d, 3, READ_ONLY_BYTE, 0);
+        set_byte(&d, 3, IN_FLASH_BYTE, (uint8_t)byte);
+        if (byte != 0) {
+            check_draft_refused(&d, 48, 48, 72, 4, word);
+        } else {
+            check_space(&d, false, 0x3E, word);
+        }
+        set_byte(&d, 3, IN_FLASH_BYTE, 0);
+        set_byte(&d, 2, READ_ONLY_BYTE, (uint8_t)byte);
+        set_byte(&d, 2, IN_FLASH_BYTE, 0);
+        if (byte != 0) {
+            check_accepted(&d, 48, 48, word);
+        } else {
+            check_draft_refused(&d, 48, 48, 72, 4, word);
+        }
+        /* The byte that means nothing, alone. */
+        d = draft_demonstration();
+        for (size_t i = 0; i < d.count; i++) {
+            set_byte(&d, i, MEANINGLESS_BYTE, (uint8_t)byte);
+        }
+        check_space(&d, false, 0x3E, word);
+    }
+}
+
+/* A table of any size in bytes: those behind the last whole space are no space, and the seventeenth space is B1. */
+static void test_table_sizes(void)
+{
+    struct bujorelm_space spaces[18];
+    struct bujorelm_lock lock = {{0}};
+    uint8_t memory[1] = {0x5E};
+    uint8_t reply[BUJORELM_REPLY_MIN];
+    struct bujorelm_numbers answer;
+    static const size_t too_large[] = {
+        288, 4096, 65536 + 64, ((size_t)1 << 32) + 64, ((size_t)1 << 36) + 64, SIZE_MAX / 2 + 1, SIZE_MAX - 15, SIZE_MAX,
+    };
+    struct guarded none = guarded_new(0, false);
+
+    memset(spaces, 0, sizeof spaces);
+    for (size_t i = 0; i < 18; i++) {
+        spaces[i].number = (uint8_t)(0x40 + i);
+    }
+    for (size_t size = 0; size <= sizeof spaces; size++) {
+        /* The table ends at a guard where its address is then one that a C compiler wants for a space. */
+        struct guarded table = guarded_new(size, size % 4 != 0);
+        const struct bujorelm_space *const at = (const struct bujorelm_space *)(const void *)table.bytes;
+
+        memcpy(table.bytes, spaces, size);
+        for (uint8_t number = 0x40; number < 0x52; number++) {
+            const uint8_t question[] = {0x20, 0x84, number};
+
+            answer = bujorelm_handle_datagram(1, 0, at, size, NULL, 0, memory, 1, &lock, question, 3, reply, sizeof reply);
+            if (size / 16 > 16) {
+                CHECK(is_house(answer, BUJORELM_HOUSE_B1));
+            } else {
+                CHECK(is_answer(answer, BUJORELM_REPLIED, 0, 0x80, 0, 8));
+                CHECK(reply[1] == (number - 0x40u < size / 16 ? 0x87 : 0x86));
+            }
+        }
+        guarded_free(&table);
+    }
+    /* Sizes that no table has, over a page that cannot be touched. */
+    for (size_t i = 0; i < sizeof too_large / sizeof too_large[0]; i++) {
+        answer = bujorelm_handle_datagram(1, 0, (const struct bujorelm_space *)(const void *)none.bytes, too_large[i], NULL, 0, memory, 1,
+                                          &lock, NULL, 0, reply, sizeof reply);
+        CHECK(is_house(answer, BUJORELM_HOUSE_B1));
+    }
+    guarded_free(&none);
+
+    CHECK(bujorelm_spaces_size(0) == 0 && bujorelm_spaces_size(1) == 16 && bujorelm_spaces_size(16) == 256);
+    CHECK(bujorelm_spaces_size(17) == 272 && bujorelm_spaces_size(18) == 272 && bujorelm_spaces_size(SIZE_MAX) == 272);
+    CHECK(bujorelm_spaces_size(SIZE_MAX / 16) == 272 && bujorelm_spaces_size(SIZE_MAX / 16 + 1) == 272);
+    CHECK(bujorelm_spaces_size(SIZE_MAX / 16 + 2) == 272 && bujorelm_spaces_size(SIZE_MAX / 2 + 5) == 272);
+}
+
+/* Every byte but 0 says that a place is held; what means nothing may be anything, and stays as long as the place does not change. */
+static void test_place_bytes(void)
+{
+    for (unsigned byte = 0; byte <= 0xFF; byte++) {
+        const uint8_t held = (uint8_t)byte;
+        struct board b;
+        struct bujorelm_place *places;
+        struct bujorelm_reception before;
+
+        board_demonstration(&b);
+        places = b.node.reception.places;
+        places[2] = (struct bujorelm_place){.held = held, .len = 2, .source = 0x123, .unused = {held, 0xAA, 0x01, 0xFF}};
+        places[5] = (struct bujorelm_place){.held = held, .len = 72, .source = 0xFFF, .unused = {1, 2, 3, held}};
+        memcpy(b.node.pool + 144, "\x20\xA8", 2);
+        before = b.node.reception;
+        CHECK(bujorelm_node_check(&b.node) == BUJORELM_HOUSE_NONE && same_places(&b.node.reception, &before));
+        /* Ignored, and a datagram of one frame from a third tool: nothing of the places changes. */
+        CHECK(feed(&b, header_of(LAST, 0x22C, 0x123), NULL, 0).kind == BUJORELM_IGNORED);
+        CHECK(is_answer(feed_hex(&b, SINGLE, 0x456, "20A8"), BUJORELM_ACCEPTED, 0, 0, 0, 0));
+        CHECK(same_places(&b.node.reception, &before));
+        if (held == 0) {
+            CHECK(is_refusal(feed_hex(&b, LAST, 0x123, ""), 0x2040));
+            CHECK(is_refusal(feed_hex(&b, MIDDLE, 0xFFF, "00"), 0x2040));
+            CHECK(same_places(&b.node.reception, &before));
+        } else {
+            /* The one is finished and its place all zero; the other is not touched, and then dropped. */
+            CHECK(is_answer(feed_hex(&b, LAST, 0x123, ""), BUJORELM_ACCEPTED, 0, 0, 0, 0));
+            memset(&before.places[2], 0, sizeof before.places[2]);
+            CHECK(same_places(&b.node.reception, &before));
+            CHECK(is_refusal(feed_hex(&b, MIDDLE, 0xFFF, "00"), 0x2000));
+            memset(&before.places[5], 0, sizeof before.places[5]);
+            CHECK(same_places(&b.node.reception, &before));
+        }
+        /* B7 by the same byte. */
+        places[1] = (struct bujorelm_place){.held = held, .len = 73, .source = 1, .unused = {0, 0, 0, 0}};
+        places[2] = (struct bujorelm_place){.held = held, .len = 0, .source = 0x1000, .unused = {0, 0, 0, 0}};
+        if (held == 0) {
+            CHECK(bujorelm_node_check(&b.node) == BUJORELM_HOUSE_NONE);
+        } else {
+            check_refused(&b, BUJORELM_HOUSE_B7, false, "73 bytes and source 4,096");
+            places[1].held = 0;
+            check_refused(&b, BUJORELM_HOUSE_B7, false, "source 4,096");
+            places[1].held = held;
+            places[2].held = 0;
+            check_refused(&b, BUJORELM_HOUSE_B7, false, "73 bytes");
+        }
+        board_free(&b);
+
+        /* Appended to, the place has canonical bytes; opened too, over whatever a free place held. */
+        board_demonstration(&b);
+        places = b.node.reception.places;
+        places[0] = (struct bujorelm_place){.held = 0, .len = held, .source = 0xFFFF, .unused = {held, held, held, held}};
+        places[1] = (struct bujorelm_place){.held = 3, .len = 0, .source = 0x456, .unused = {held, 0, held, 0}};
+        before = b.node.reception;
+        CHECK(is_joined(feed_hex(&b, MIDDLE, 0x456, "2041")));
+        CHECK(follows_on(&before, &b.node.reception));
+        CHECK(places[1].held == 1 && places[1].len == 2 && places[1].source == 0x456 && is_canonical(&places[1]));
+        for (uint32_t source = 1; source <= 7; source++) {
+            before = b.node.reception;
+            CHECK(is_joined(feed_hex(&b, FIRST, source, "20")));
+            CHECK(follows_on(&before, &b.node.reception) && !same_places(&before, &b.node.reception));
+        }
+        for (size_t i = 0; i < BUJORELM_PLACES; i++) {
+            CHECK(places[i].held == 1 && is_canonical(&places[i]));
+        }
+        board_free(&b);
+    }
+}
+
 /* ---- Joining ---- */
-
-static bool is_refusal(struct bujorelm_numbers answer, uint16_t code)
-{
-    return is_answer(answer, BUJORELM_TRANSPORT_REFUSAL, 0, 0, code, 0);
-}
-
-static bool is_joined(struct bujorelm_numbers answer)
-{
-    return is_answer(answer, BUJORELM_JOINED, 0, 0, 0, 0);
-}
 
 static void test_transport_refusals(void)
 {
@@ -783,7 +1146,7 @@ static void test_ignored(void)
         }
     }
     /* None of it touched the datagram that was begun. */
-    CHECK(b.node.reception.places[0].held && b.node.reception.places[0].len == 2 && b.node.reception.places[0].source == 0x123);
+    CHECK(b.node.reception.places[0].held == 1 && b.node.reception.places[0].len == 2 && b.node.reception.places[0].source == 0x123);
     CHECK(feed_hex(&b, LAST, 0x123, "0000000001").kind == BUJORELM_REPLIED);
     board_free(&b);
 }
@@ -792,56 +1155,59 @@ static void test_ignored(void)
 
 static void test_cutting(void)
 {
+    struct bujorelm_frame frames[BUJORELM_FRAMES_MAX];
+    const uint8_t *const bytes = (const uint8_t *)frames;
+
     for (size_t len = 0; len <= 80; len++) {
         struct guarded datagram = guarded_new(len, false);
-        struct bujorelm_cut_frames cut;
+        size_t count;
 
         for (size_t i = 0; i < len; i++) {
             datagram.bytes[i] = (uint8_t)(i + 1);
         }
-        cut = bujorelm_cut(datagram.bytes, len, 0x123, 0x22B);
-        CHECK(cut.refused == (len > 72));
-        CHECK(cut.count == (len > 72 ? 0 : len == 0 ? 1 : (len + 7) / 8));
-        for (size_t i = 0; i < BUJORELM_FRAMES_MAX; i++) {
-            const struct bujorelm_frame *const f = &cut.frames[i];
+        memset(frames, UNTOUCHED, sizeof frames);
+        count = bujorelm_cut(datagram.bytes, len, 0x123, 0x22B, frames);
+        CHECK(count == (len > 72 ? 0 : len == 0 ? 1 : (len + 7) / 8));
+        for (size_t i = 0; i < count; i++) {
+            const struct bujorelm_frame *const f = &frames[i];
+            const uint32_t top = len <= 8 ? SINGLE : i == 0 ? FIRST : i + 1 == count ? LAST : MIDDLE;
+            const size_t data = len - 8 * i < 8 ? len - 8 * i : 8;
             uint8_t expected[8] = {0};
-            size_t data = 0;
-            uint32_t header = 0;
 
-            if (i < cut.count) {
-                const uint32_t top = len <= 8 ? SINGLE : i == 0 ? FIRST : i + 1 == cut.count ? LAST : MIDDLE;
-
-                data = len - 8 * i < 8 ? len - 8 * i : 8;
-                memcpy(expected, datagram.bytes + 8 * i, data);
-                header = header_of(top, 0x123, 0x22B);
-            }
-            CHECK(f->header == header && f->len == data && memcmp(f->bytes, expected, 8) == 0);
+            memcpy(expected, datagram.bytes + 8 * i, data);
+            CHECK(f->header == header_of(top, 0x123, 0x22B) && f->len == data && memcmp(f->bytes, expected, 8) == 0);
         }
+        /* Where B9 refuses it, that is all of them. */
+        CHECK(is_untouched(bytes, 16 * count, sizeof frames));
         guarded_free(&datagram);
     }
     /* B9: an alias over 4,095. Zero is none of its business. */
-    CHECK(!bujorelm_cut((const uint8_t *)"x", 1, 4095, 4095).refused);
-    CHECK(!bujorelm_cut((const uint8_t *)"x", 1, 0, 0).refused);
-    CHECK(bujorelm_cut((const uint8_t *)"x", 1, 4096, 1).refused);
-    CHECK(bujorelm_cut((const uint8_t *)"x", 1, 1, 4096).refused);
-    CHECK(bujorelm_cut((const uint8_t *)"x", 1, 0xFFFF, 0xFFFF).count == 0);
+    CHECK(bujorelm_cut((const uint8_t *)"x", 1, 4095, 4095, frames) == 1);
+    CHECK(bujorelm_cut((const uint8_t *)"x", 1, 0, 0, frames) == 1);
+    memset(frames, UNTOUCHED, sizeof frames);
+    CHECK(bujorelm_cut((const uint8_t *)"x", 1, 4096, 1, frames) == 0);
+    CHECK(bujorelm_cut((const uint8_t *)"x", 1, 1, 4096, frames) == 0);
+    CHECK(bujorelm_cut((const uint8_t *)"x", 1, 0xFFFF, 0xFFFF, frames) == 0);
+    CHECK(is_untouched(bytes, 0, sizeof frames));
 }
 
 static void test_transport_replies(void)
 {
-    struct bujorelm_transport_reply r = bujorelm_received_ok(0x22B, 0xF23, 0x80);
+    struct bujorelm_frame f;
 
-    CHECK(!r.refused && r.frame.header == 0x19A2822Bu && r.frame.len == 3);
-    CHECK(memcmp(r.frame.bytes, "\x0F\x23\x80\0\0\0\0", 8) == 0);
-    r = bujorelm_rejected(0x22B, 0xF23, 0x2040);
-    CHECK(!r.refused && r.frame.header == 0x19A4822Bu && r.frame.len == 4);
-    CHECK(memcmp(r.frame.bytes, "\x0F\x23\x20\x40\0\0\0", 8) == 0);
-    r = bujorelm_received_ok(4095, 4095, 0);
-    CHECK(!r.refused && r.frame.header == 0x19A28FFFu);
-    r = bujorelm_received_ok(4096, 1, 0);
-    CHECK(r.refused && r.frame.header == 0 && r.frame.len == 0);
-    r = bujorelm_rejected(1, 4096, 0x1080);
-    CHECK(r.refused && r.frame.header == 0 && r.frame.len == 0);
+    memset(&f, UNTOUCHED, sizeof f);
+    CHECK(bujorelm_received_ok(0x22B, 0xF23, 0x80, &f) == 1 && f.header == 0x19A2822Bu && f.len == 3);
+    CHECK(memcmp(f.bytes, "\x0F\x23\x80\0\0\0\0", 8) == 0);
+    memset(&f, UNTOUCHED, sizeof f);
+    CHECK(bujorelm_rejected(0x22B, 0xF23, 0x2040, &f) == 1 && f.header == 0x19A4822Bu && f.len == 4);
+    CHECK(memcmp(f.bytes, "\x0F\x23\x20\x40\0\0\0", 8) == 0);
+    CHECK(bujorelm_received_ok(4095, 4095, 0, &f) == 1 && f.header == 0x19A28FFFu);
+    CHECK(bujorelm_rejected(0, 0, 0, &f) == 1 && f.header == 0x19A48000u);
+    memset(&f, UNTOUCHED, sizeof f);
+    CHECK(bujorelm_received_ok(4096, 1, 0, &f) == 0 && bujorelm_received_ok(1, 4096, 0, &f) == 0);
+    CHECK(bujorelm_rejected(4096, 1, 0x1080, &f) == 0 && bujorelm_rejected(1, 4096, 0x1080, &f) == 0);
+    CHECK(bujorelm_rejected(0xFFFF, 0xFFFF, 0x1080, &f) == 0);
+    CHECK(is_untouched((const uint8_t *)&f, 0, sizeof f));
 }
 
 /* ---- GridConnect ---- */
@@ -889,13 +1255,13 @@ static void test_lines(void)
         guarded_free(&line);
     }
 
-    for (uint8_t len = 0; len <= 8; len++) {
+    for (uint32_t len = 0; len <= 8; len++) {
         char expected[32];
         const size_t printed = 13 + 2 * (size_t)len;
         struct bujorelm_parsed p;
 
         frame.len = len;
-        snprintf(expected, sizeof expected, ":X1234ABCDN%.*s;\n", 2 * len, digits);
+        snprintf(expected, sizeof expected, ":X1234ABCDN%.*s;\n", 2 * (int)len, digits);
         /* It fits to the byte, with bytes before it left alone. */
         for (size_t at = 0; at < 3; at++) {
             struct guarded out = guarded_new(at + printed, false);
@@ -920,11 +1286,16 @@ static void test_lines(void)
         CHECK_CASE(!bujorelm_parse_line((const uint8_t *)expected, printed).good, expected);
     }
     /* Frames that have no line. */
-    for (unsigned len = 9; len <= 255; len++) {
+    for (uint32_t len = 9; len <= 600; len++) {
         uint8_t out[64];
 
         memset(out, UNTOUCHED, sizeof out);
-        frame.len = (uint8_t)len;
+        frame.len = len;
+        CHECK(bujorelm_print_frame(frame, out, sizeof out, 5) == 5 && is_untouched(out, 0, sizeof out));
+        /* Lengths whose low bits alone would do. */
+        frame.len = len << 16;
+        CHECK(bujorelm_print_frame(frame, out, sizeof out, 5) == 5 && is_untouched(out, 0, sizeof out));
+        frame.len = UINT32_MAX - len;
         CHECK(bujorelm_print_frame(frame, out, sizeof out, 5) == 5 && is_untouched(out, 0, sizeof out));
     }
     /* Every header of eight digits is read. */
@@ -1011,10 +1382,16 @@ struct book {
 
 static const uint16_t aliases[SOURCES] = {0, 1, 2, 3, 0x22B, 0x123, 0x456, 0x7FF, 0x800, 0xABC, 0xFFE, 0xFFF};
 
-static struct bujorelm_description random_description(size_t *flash_len, size_t *memory_len)
+/* A byte that says yes or no: yes by any of its 255 values. */
+static uint8_t random_flag(bool yes)
+{
+    return yes ? (uint8_t)(1 + random_below(0xFF)) : 0;
+}
+
+static struct draft random_draft(size_t *flash_len, size_t *memory_len)
 {
     static const uint8_t numbers[] = {0xFD, 0xFE, 0xFF, 0x00, 0x10, 0x20, 0xFC, 0xFB};
-    struct bujorelm_description d;
+    struct draft d;
 
     memset(&d, 0, sizeof d);
     *flash_len = 1 + random_below(200);
@@ -1028,9 +1405,10 @@ static struct bujorelm_description random_description(size_t *flash_len, size_t 
         uint32_t size;
 
         s->number = numbers[random_below(24) == 0 ? 0 : i];
-        s->in_flash = random_below(3) == 0;
-        s->read_only = s->in_flash || s->number == 0xFF || random_below(4) == 0;
-        store = s->in_flash ? *flash_len : *memory_len;
+        s->in_flash = random_flag(random_below(3) == 0);
+        s->read_only = random_flag(s->in_flash != 0 || s->number == 0xFF || random_below(4) == 0);
+        set_byte(&d, i, MEANINGLESS_BYTE, (uint8_t)random_number());
+        store = s->in_flash != 0 ? *flash_len : *memory_len;
         s->offset = random_below((uint32_t)store);
         size = 1 + random_below((uint32_t)(store - s->offset));
         if (random_below(30) == 0) {
@@ -1053,7 +1431,7 @@ static struct bujorelm_description random_description(size_t *flash_len, size_t 
 }
 
 /* A datagram that is often a command with a likely address, sometimes cut short or with a byte changed. */
-static size_t random_datagram(const struct bujorelm_description *d, uint8_t *bytes)
+static size_t random_datagram(const struct draft *d, uint8_t *bytes)
 {
     static const uint8_t commands[] = {0x00, 0x01, 0x02, 0x03, 0x08, 0x09, 0x0A, 0x0B, 0x40, 0x41, 0x42,
                                        0x43, 0x80, 0x84, 0x88, 0xA8, 0x44, 0x60, 0x50, 0xA9};
@@ -1110,7 +1488,7 @@ struct sender {
     size_t sent;
 };
 
-static size_t random_frame(const struct bujorelm_description *d, struct sender *sender, uint32_t source, uint32_t *header, uint8_t *data)
+static size_t random_frame(const struct draft *d, struct sender *sender, uint32_t source, uint32_t *header, uint8_t *data)
 {
     size_t len;
     size_t left;
@@ -1221,7 +1599,7 @@ static bool state_has(const struct bujorelm_node *node, uint16_t source, const s
     for (size_t i = 0; i < BUJORELM_PLACES; i++) {
         const struct bujorelm_place *const p = &node->reception.places[i];
 
-        if (p->held && p->source == source) {
+        if (p->held != 0 && p->source == source) {
             found++;
             if (!book->held || p->len != book->len || memcmp(node->pool + 72 * i, book->bytes, book->len) != 0) {
                 return false;
@@ -1255,11 +1633,28 @@ static void see(struct bujorelm_numbers answer, const uint8_t *reply)
     }
 }
 
+/* Other bytes in the places that say the same. */
+static void random_places(struct bujorelm_reception *reception)
+{
+    for (size_t i = 0; i < BUJORELM_PLACES; i++) {
+        struct bujorelm_place *const p = &reception->places[i];
+
+        if (random_below(4) == 0) {
+            p->held = random_flag(p->held != 0);
+            random_bytes(p->unused, sizeof p->unused);
+            if (p->held == 0) {
+                p->len = (uint8_t)random_number();
+                p->source = (uint16_t)random_number();
+            }
+        }
+    }
+}
+
 static void random_session(unsigned long frames)
 {
     size_t flash_len;
     size_t memory_len;
-    const struct bujorelm_description d = random_description(&flash_len, &memory_len);
+    const struct draft d = random_draft(&flash_len, &memory_len);
     const size_t reply_len = random_below(20) == 0 ? random_below(72) : 72 + random_below(3);
     struct board b;
     struct book books[SOURCES];
@@ -1290,12 +1685,14 @@ static void random_session(unsigned long frames)
         uint8_t data[24];
         uint32_t header;
         const size_t len = random_frame(&d, &senders[who], aliases[who], &header, data);
-        const struct bujorelm_node before = b.node;
+        struct bujorelm_node before;
         struct bujorelm_numbers answer;
         struct expected e;
         size_t others = 0;
         size_t written = 0;
 
+        random_places(&b.node.reception);
+        before = b.node;
         memset(b.reply.bytes, UNTOUCHED, reply_len);
         if (len <= 8) {
             memcpy(payload.bytes + 8 - len, data, len);
@@ -1307,6 +1704,7 @@ static void random_session(unsigned long frames)
         see(answer, b.reply.bytes);
 
         CHECK(memcmp(b.flash.bytes, flash, flash_len) == 0);
+        CHECK(follows_on(&before.reception, &b.node.reception));
         if (house != 0) {
             CHECK(is_house(answer, house));
             CHECK(same_places(&b.node.reception, &before.reception));
@@ -1331,26 +1729,27 @@ static void random_session(unsigned long frames)
                 /* The datagram that the book finishes, handed over whole, gives the same answer, reply, memory and lock. */
                 struct bujorelm_lock held;
                 uint8_t reply[80];
-                struct bujorelm_datagram_return whole;
+                uint8_t old[256];
+                struct bujorelm_numbers whole;
 
                 memcpy(held.bytes, lock, 6);
+                memcpy(old, memory, memory_len);
                 memset(reply, UNTOUCHED, sizeof reply);
-                whole = bujorelm_handle_datagram(d, flash, flash_len, memory, memory_len, held, e.bytes, e.len, reply, reply_len);
-                CHECK(is_answer(answer, whole.answer.kind, whole.answer.house, whole.answer.flags, whole.answer.code,
-                                whole.answer.reply_len));
+                whole = bujorelm_handle_datagram(d.alias, d.write_lengths, d.spaces, bujorelm_spaces_size(d.count), flash, flash_len,
+                                                 memory, memory_len, &held, e.bytes, e.len, reply, reply_len);
+                CHECK(is_answer(answer, whole.kind, whole.house, whole.flags, whole.code, whole.reply_len));
                 CHECK(answer.kind >= BUJORELM_REJECTED && answer.kind <= BUJORELM_REPLIED);
                 written = answer.reply_len;
                 CHECK(written <= 72 && memcmp(reply, b.reply.bytes, reply_len) == 0);
                 CHECK((answer.kind == BUJORELM_REPLIED) == (written != 0));
                 /* Only an accepted write changes memory, and only a lock command changes the lock. */
                 if (answer.kind != BUJORELM_ACCEPTED || e.bytes[1] > 0x0B) {
-                    CHECK(memcmp(memory, before.memory, memory_len) == 0);
-                    CHECK(memcmp(b.memory.bytes, memory, memory_len) == 0);
+                    CHECK(memcmp(memory, old, memory_len) == 0);
                 }
                 if (answer.kind != BUJORELM_REPLIED || e.bytes[1] != 0x88) {
-                    CHECK(memcmp(whole.lock.bytes, lock, 6) == 0);
+                    CHECK(memcmp(held.bytes, lock, 6) == 0);
                 }
-                memcpy(lock, whole.lock.bytes, 6);
+                memcpy(lock, held.bytes, 6);
             }
             for (size_t i = 0; i < SOURCES; i++) {
                 CHECK(state_has(&b.node, aliases[i], &books[i]));
@@ -1373,6 +1772,7 @@ int main(int argc, char **argv)
     const unsigned long frames = argc > 1 ? strtoul(argv[1], NULL, 10) : 100000;
 
     test_layout();
+    test_empty_buffers();
     test_session();
     test_datagrams();
     test_longest();
@@ -1380,6 +1780,9 @@ int main(int argc, char **argv)
     test_left_out();
     test_house_numbers();
     test_bad_states();
+    test_table_bytes();
+    test_table_sizes();
+    test_place_bytes();
     test_transport_refusals();
     test_ignored();
     test_cutting();

@@ -1,34 +1,50 @@
 /*
  * Measures the most stack that a call takes: the call runs on a stack of its own that was painted with a pattern, and the deepest byte
- * that has changed says how far it went. Arguments and the returned struct are counted, since they lie on the caller's stack too.
+ * that has changed says how far it went. Arguments are counted, and so is what an inline function keeps on the stack, since they lie
+ * there too. The calls themselves are in tests/stack_calls.c.
  *
- * It prints the figures that docs/DRIVER.md has, and fails where one is over the bound that it names there.
+ * Usage: stack LEVEL, the level of optimisation of that file
+ *
+ * It prints the figures that docs/DRIVER.md has, and fails where one is over the bound.
  */
 #define _DEFAULT_SOURCE
 
 #include "check.h"
-#include "demonstration.h"
+#include "stack.h"
 
 #include <ucontext.h>
 
 #define STACK_SIZE 32768u
 
+/* No call may take more. */
+#define BOUND 1024u
+
+struct subject subject;
+
 static uint8_t stack[STACK_SIZE];
 static ucontext_t outside;
 static ucontext_t inside;
 
-/* Volatile, so that no compiler takes the operations into the function that calls them. */
+/* Volatile, so that no compiler takes the calls into the function that makes them. */
 static void (*volatile operation)(void);
+static uint8_t pattern;
+static size_t untouched;
 
+/* Runs on the painted stack, and looks at it before the way back, which takes some of it too. */
 static void run_operation(void)
 {
+    size_t n = 0;
+
     operation();
+    while (n < sizeof stack && stack[n] == pattern) {
+        n++;
+    }
+    untouched = n;
 }
 
-static size_t used_with(void (*op)(void), uint8_t pattern)
+static size_t used_with(void (*op)(void), uint8_t paint)
 {
-    size_t untouched = 0;
-
+    pattern = paint;
     memset(stack, pattern, sizeof stack);
     operation = op;
     if (getcontext(&inside) != 0) {
@@ -41,9 +57,6 @@ static size_t used_with(void (*op)(void), uint8_t pattern)
     if (swapcontext(&outside, &inside) != 0) {
         give_up("swapcontext");
     }
-    while (untouched < sizeof stack && stack[untouched] == pattern) {
-        untouched++;
-    }
     return sizeof stack - untouched;
 }
 
@@ -51,181 +64,141 @@ static void nothing(void)
 {
 }
 
-/* ---- The operations, on state of the file so that they have no locals of their own ---- */
-
-static struct bujorelm_node node;
-static uint8_t flash[256];
-static uint8_t memory[256];
-static uint8_t reply[BUJORELM_REPLY_MIN];
-static uint8_t text[BUJORELM_PRINTED_MAX];
-static uint8_t datagram[80];
-static size_t datagram_len;
-static struct bujorelm_frame frame;
-static struct bujorelm_frame_return frame_done;
-static struct bujorelm_datagram_return datagram_done;
-static struct bujorelm_cut_frames cut;
-static struct bujorelm_transport_reply transport;
-static struct bujorelm_parsed parsed;
-static size_t printed;
-
-static void do_handle_frame(void)
-{
-    frame_done = bujorelm_handle_frame(node.description, node.flash, node.flash_len, node.memory, node.memory_len, node.lock, node.pool,
-                                       node.reception, frame.header, frame.bytes, frame.len, reply, sizeof reply);
-}
-
-static void do_handle_datagram(void)
-{
-    datagram_done = bujorelm_handle_datagram(node.description, node.flash, node.flash_len, node.memory, node.memory_len, node.lock,
-                                             datagram, datagram_len, reply, sizeof reply);
-}
-
-static void do_cut(void)
-{
-    cut = bujorelm_cut(datagram, datagram_len, 0x123, 0x22B);
-}
-
-static void do_transport(void)
-{
-    transport = bujorelm_received_ok(0x22B, 0x123, 0x80);
-    transport = bujorelm_rejected(0x22B, 0x123, 0x1080);
-}
-
-static void do_print(void)
-{
-    printed = bujorelm_print_frame(frame, text, sizeof text, 0);
-}
-
-static void do_parse(void)
-{
-    parsed = bujorelm_parse_line(text, printed == 0 ? 0 : printed - 1);
-}
-
-static bool take(void *context, const struct bujorelm_frame *sent)
-{
-    (void)context;
-    (void)sent;
-    return true;
-}
-
-static void do_receive(void)
-{
-    (void)bujorelm_node_receive(&node, frame.header, frame.bytes, frame.len, take, NULL, NULL);
-}
-
-enum { HANDLE_FRAME, HANDLE_DATAGRAM, CUT, TRANSPORT, PRINT, PARSE, RECEIVE, OPERATIONS };
+enum { HANDLE_FRAME, HANDLE_DATAGRAM, CUT, RECEIVED_OK, REJECTED, PRINT_FRAME, PARSE_LINE, NODE_RECEIVE, CALLS };
 
 static const struct {
     const char *name;
-    void (*op)(void);
-    size_t bound;
-} operations[OPERATIONS] = {
-    {"bujorelm_handle_frame", do_handle_frame, 2560},
-    {"bujorelm_handle_datagram", do_handle_datagram, 2304},
-    {"bujorelm_cut", do_cut, 4096},
-    {"bujorelm_received_ok, bujorelm_rejected", do_transport, 128},
-    {"bujorelm_print_frame", do_print, 256},
-    {"bujorelm_parse_line", do_parse, 256},
-    {"bujorelm_node_receive (inline)", do_receive, 4608},
+    void (*call)(void);
+} calls[CALLS] = {
+    {"bujorelm_handle_frame", call_handle_frame},
+    {"bujorelm_handle_datagram", call_handle_datagram},
+    {"bujorelm_cut", call_cut},
+    {"bujorelm_received_ok", call_received_ok},
+    {"bujorelm_rejected", call_rejected},
+    {"bujorelm_print_frame", call_print_frame},
+    {"bujorelm_parse_line", call_parse_line},
+    {"bujorelm_node_receive", call_node_receive},
 };
 
-static size_t most[OPERATIONS];
+static size_t most[CALLS];
 static size_t base;
 
+/* Makes a call twice from the same state, over two patterns: the deepest byte may be the one or the other by chance. */
 static void measure(size_t i)
 {
-    const size_t used = used_with(operations[i].op, 0x5A) - base;
+    static const uint8_t patterns[] = {0x5A, 0xC3};
+    static struct subject before;
 
-    if (used > most[i]) {
-        most[i] = used;
+    before = subject;
+    for (size_t n = 0; n < sizeof patterns; n++) {
+        size_t used;
+
+        subject = before;
+        used = used_with(calls[i].call, patterns[n]) - base;
+        if (used > most[i]) {
+            most[i] = used;
+        }
     }
 }
+
+static struct bujorelm_space spaces[BUJORELM_SPACES_MAX];
 
 /* A board of sixteen spaces, in flash and in memory, writable and not. */
 static void start(void)
 {
-    struct bujorelm_description d = demonstration_description;
+    struct bujorelm_description d;
 
     for (size_t i = 0; i < BUJORELM_SPACES_MAX; i++) {
-        d.spaces[i] = (struct bujorelm_space){.number = (uint8_t)(0xF0 + i),
-                                              .read_only = i % 2 == 1,
-                                              .in_flash = i % 4 == 3,
-                                              .lowest = i < 8 ? 0 : 0x1000,
-                                              .highest = i < 8 ? 0xFF : 0x10FF,
-                                              .offset = 0};
+        spaces[i] = (struct bujorelm_space){.number = (uint8_t)(0xF0 + i),
+                                            .read_only = i % 2 == 1,
+                                            .in_flash = i % 4 == 3,
+                                            .lowest = i < 8 ? 0 : 0x1000,
+                                            .highest = i < 8 ? 0xFF : 0x10FF,
+                                            .offset = 0};
     }
+    d.alias = 0x22B;
+    d.write_lengths = 0xF2;
     d.count = BUJORELM_SPACES_MAX;
-    bujorelm_node_start(&node, &d, flash, sizeof flash, memory, sizeof memory);
-    CHECK(bujorelm_node_check(&node) == BUJORELM_HOUSE_NONE);
+    d.spaces = spaces;
+    bujorelm_node_start(&subject.node, &d, subject.flash, sizeof subject.flash, subject.memory, sizeof subject.memory);
+    CHECK(bujorelm_node_check(&subject.node) == BUJORELM_HOUSE_NONE);
 }
 
 /* A datagram with that command, some of them well formed and some not. */
 static void make_datagram(uint8_t command)
 {
-    random_bytes(datagram, sizeof datagram);
+    uint8_t *const datagram = subject.datagram;
+    size_t len = random_below(73);
+
+    random_bytes(datagram, sizeof subject.datagram);
     datagram[0] = 0x20;
     datagram[1] = command;
     datagram[2] = 0;
     datagram[3] = 0;
     datagram[4] = random_below(2) == 0 ? 0 : 0x10;
     datagram[6] = (uint8_t)(0xF0 + random_below(16));
-    datagram_len = random_below(73);
     switch (command) {
     case 0x40:
-        datagram_len = 8;
+        len = 8;
         datagram[7] = 64;
         break;
     case 0x41:
     case 0x42:
     case 0x43:
-        datagram_len = 7;
+        len = 7;
         datagram[6] = 64;
         break;
     case 0x80:
     case 0xA8:
-        datagram_len = 2;
+        len = 2;
         break;
     case 0x84:
-        datagram_len = 3;
+        len = 3;
         break;
     case 0x88:
-        datagram_len = 8;
+        len = 8;
         break;
     default:
         break;
     }
+    subject.datagram_len = len;
 }
 
-/* Measures every operation along the way of one datagram through the board. */
+/* Measures every call along the way of one datagram through the board. */
 static void walk(void)
 {
-    struct bujorelm_cut_frames way;
+    struct bujorelm_frame way[BUJORELM_FRAMES_MAX];
+    size_t count;
 
     measure(HANDLE_DATAGRAM);
     measure(CUT);
-    measure(TRANSPORT);
-    way = bujorelm_cut(datagram, datagram_len, node.description.alias, 0x123);
-    for (size_t i = 0; i < way.count; i++) {
-        const struct bujorelm_node before = node;
+    measure(RECEIVED_OK);
+    measure(REJECTED);
+    count = bujorelm_cut(subject.datagram, subject.datagram_len, subject.node.description.alias, 0x123, way);
+    CHECK(count != 0);
+    for (size_t i = 0; i < count; i++) {
+        const struct bujorelm_node before = subject.node;
 
-        frame = way.frames[i];
+        subject.frame = way[i];
         measure(HANDLE_FRAME);
-        measure(PRINT);
-        measure(PARSE);
+        measure(PRINT_FRAME);
+        measure(PARSE_LINE);
         /* The same frame again, from the same state, by way of the inline function, which goes on to the next. */
-        node = before;
-        measure(RECEIVE);
+        subject.node = before;
+        measure(NODE_RECEIVE);
     }
 }
 
-int main(void)
+int main(int argc, char **argv)
 {
     static const uint8_t commands[] = {0x00, 0x01, 0x02, 0x03, 0x08, 0x09, 0x0A, 0x0B, 0x40, 0x41, 0x42,
                                        0x43, 0x80, 0x84, 0x88, 0xA8, 0x44, 0xFF};
+    const char *const level = argc > 1 ? argv[1] : "";
 
-    /* What getting onto the painted stack takes by itself. The first run also settles what the system does once. */
+    /* What getting onto the painted stack takes by itself, up to the return address of the function that makes the call, which counts. The
+       first run also settles what the system does once. */
     (void)used_with(nothing, 0x5A);
-    base = used_with(nothing, 0x5A);
+    base = used_with(nothing, 0x5A) - sizeof(void *);
     start();
     for (size_t turn = 0; turn < 20; turn++) {
         for (size_t i = 0; i < sizeof commands; i++) {
@@ -233,23 +206,24 @@ int main(void)
             walk();
         }
     }
-    /* Every length of a datagram, for cutting. */
-    for (datagram_len = 0; datagram_len <= sizeof datagram; datagram_len++) {
+    /* Every length of a datagram. */
+    for (size_t len = 0; len <= sizeof subject.datagram; len++) {
+        subject.datagram_len = len;
         measure(CUT);
         measure(HANDLE_DATAGRAM);
     }
     /* Every sort of frame, over a state with places held. */
     for (uint32_t top = 0; top < 0x40; top++) {
         for (uint32_t source = 0; source < 12; source++) {
-            frame.header = (0x1A + top % 4) << 24 | (uint32_t)node.description.alias << 12 | source;
-            frame.len = (uint8_t)(top % 9);
+            subject.frame.header = (0x1A + top % 4) << 24 | (uint32_t)subject.node.description.alias << 12 | source;
+            subject.frame.len = top % 9;
             measure(HANDLE_FRAME);
-            measure(RECEIVE);
+            measure(NODE_RECEIVE);
         }
     }
-    for (size_t i = 0; i < OPERATIONS; i++) {
-        printf("stack: %-40s %5zu bytes\n", operations[i].name, most[i]);
-        CHECK_CASE(most[i] <= operations[i].bound, operations[i].name);
+    for (size_t i = 0; i < CALLS; i++) {
+        printf("stack: %-4s %-26s %5zu bytes\n", level, calls[i].name, most[i]);
+        CHECK_CASE(most[i] <= BOUND, calls[i].name);
     }
     return check_result("stack");
 }

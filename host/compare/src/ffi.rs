@@ -1,33 +1,44 @@
-//! Holds the edge to the library: its C functions, the structs they take and give, and safe
-//! functions around them. Everything unsafe of this package is here.
+//! Holds the edge to the library: its C functions, and safe functions around them. Everything
+//! unsafe of this package is here.
 //!
-//! A slice goes over as a pointer and a length, a struct by value, and the pool, which has one
-//! size, as a pointer alone.
+//! All that a board has is lent as bytes: a slice goes over as a pointer and a length, and what
+//! has one size as a pointer alone. What the bytes stand for is in `layout`.
 
 #![allow(unsafe_code)]
 
 /// The places of a reception state.
 pub const PLACES: usize = 8;
+/// The bytes of a place.
+pub const PLACE_SIZE: usize = 8;
+/// The bytes of the places.
+pub const PLACES_SIZE: usize = PLACES * PLACE_SIZE;
 /// The bytes of the pool for each place.
 pub const PLACE_BYTES: usize = 72;
 /// The bytes of the pool.
 pub const POOL_BYTES: usize = PLACES * PLACE_BYTES;
-/// The spaces that a description has room for.
+/// The bytes of a space in a table.
+pub const SPACE_SIZE: usize = 16;
+/// The most spaces that a table may have.
 pub const MOST_SPACES: usize = 16;
-/// The frames that a cut datagram has room for.
+/// The bytes of a frame that the library makes.
+pub const FRAME_SIZE: usize = 16;
+/// The frames that cutting has room for.
 pub const MOST_FRAMES: usize = 9;
+/// The bytes of the room for them.
+pub const FRAMES_SIZE: usize = MOST_FRAMES * FRAME_SIZE;
 
-/// A `bool` of the library. It is a byte here: a Rust `bool` that came back as neither 0 nor 1
-/// would be undefined behaviour before anybody could look at it.
+/// The lock memory.
+pub type Lock = [u8; 6];
+/// The reception state, but for the bytes in the pool. It is all zero at the start.
+pub type Places = [u8; PLACES_SIZE];
+/// The bytes of unfinished datagrams.
+pub type Pool = [u8; POOL_BYTES];
+
+/// A `bool` that the library returns. It is a byte here: a Rust `bool` that came back as neither
+/// 0 nor 1 would be undefined behaviour before anybody could look at it.
 #[derive(Clone, Copy, Debug, PartialEq, Eq)]
 #[repr(transparent)]
 pub struct Flag(u8);
-
-impl From<bool> for Flag {
-    fn from(value: bool) -> Self {
-        Self(u8::from(value))
-    }
-}
 
 impl Flag {
     /// What the flag says.
@@ -43,66 +54,6 @@ impl Flag {
             other => panic!("the library gave {other} for a bool"),
         }
     }
-}
-
-/// One space of a description.
-#[derive(Clone, Copy, Debug, PartialEq, Eq)]
-#[repr(C)]
-pub struct Space {
-    /// The number by which commands name the space.
-    pub number: u8,
-    /// Read-only, or else writable.
-    pub read_only: Flag,
-    /// In flash, or else in working memory.
-    pub in_flash: Flag,
-    /// The lowest address, included.
-    pub lowest: u32,
-    /// The highest address, included.
-    pub highest: u32,
-    /// Where in flash or memory the space begins.
-    pub offset: u32,
-}
-
-/// A board description; the spaces are the first `count`.
-#[derive(Clone, Copy, Debug, PartialEq, Eq)]
-#[repr(C)]
-pub struct Description {
-    /// The board's alias.
-    pub alias: u16,
-    /// The Write Lengths byte.
-    pub write_lengths: u8,
-    /// How many spaces there are.
-    pub count: usize,
-    /// The spaces, and room that is not used.
-    pub spaces: [Space; MOST_SPACES],
-}
-
-/// The lock memory.
-#[derive(Clone, Copy, Debug, PartialEq, Eq)]
-#[repr(C)]
-pub struct Lock {
-    /// Its six bytes.
-    pub bytes: [u8; 6],
-}
-
-/// A place for an unfinished datagram.
-#[derive(Clone, Copy, Debug, PartialEq, Eq)]
-#[repr(C)]
-pub struct Place {
-    /// Whether it holds one.
-    pub held: Flag,
-    /// How many bytes are joined so far.
-    pub len: u8,
-    /// The alias of the tool.
-    pub source: u16,
-}
-
-/// The reception state, but for the bytes in the pool.
-#[derive(Clone, Copy, Debug, PartialEq, Eq)]
-#[repr(C)]
-pub struct Reception {
-    /// Its eight places.
-    pub places: [Place; PLACES],
 }
 
 /// What comes of a call, as numbers.
@@ -121,28 +72,6 @@ pub struct Numbers {
     pub reply_len: usize,
 }
 
-/// What the call for a whole datagram gives.
-#[derive(Clone, Copy, Debug, PartialEq, Eq)]
-#[repr(C)]
-pub struct DatagramReturn {
-    /// The answer.
-    pub answer: Numbers,
-    /// The lock memory afterwards.
-    pub lock: Lock,
-}
-
-/// What the call for a frame gives.
-#[derive(Clone, Copy, Debug, PartialEq, Eq)]
-#[repr(C)]
-pub struct FrameReturn {
-    /// The answer.
-    pub answer: Numbers,
-    /// The places afterwards.
-    pub reception: Reception,
-    /// The lock memory afterwards.
-    pub lock: Lock,
-}
-
 /// A frame; its data are the first `len` bytes.
 #[derive(Clone, Copy, Debug, PartialEq, Eq)]
 #[repr(C)]
@@ -150,31 +79,9 @@ pub struct Frame {
     /// The header.
     pub header: u32,
     /// How many bytes of data there are.
-    pub len: u8,
+    pub len: u32,
     /// The data, and room that is not used.
     pub bytes: [u8; 8],
-}
-
-/// A datagram cut into the first `count` frames.
-#[derive(Clone, Copy, Debug, PartialEq, Eq)]
-#[repr(C)]
-pub struct Cut {
-    /// Refused by B9.
-    pub refused: Flag,
-    /// How many frames there are.
-    pub count: usize,
-    /// The frames, and room that is not used.
-    pub frames: [Frame; MOST_FRAMES],
-}
-
-/// A transport reply.
-#[derive(Clone, Copy, Debug, PartialEq, Eq)]
-#[repr(C)]
-pub struct TransportReply {
-    /// Refused for an alias over 4,095.
-    pub refused: Flag,
-    /// The frame.
-    pub frame: Frame,
 }
 
 /// A GridConnect line that was read.
@@ -189,47 +96,50 @@ pub struct Parsed {
 
 #[link(name = "driver", kind = "static")]
 extern "C" {
-    fn bujorelm_new_reception() -> Reception;
     fn bujorelm_handle_frame(
-        description: Description,
+        alias: u16,
+        write_lengths: u8,
+        spaces: *const u8,
+        spaces_size: usize,
         flash: *const u8,
         flash_len: usize,
         memory: *mut u8,
         memory_len: usize,
-        lock: Lock,
+        lock: *mut u8,
         pool: *mut u8,
-        reception: Reception,
+        places: *mut u8,
         header: u32,
         payload: *const u8,
         payload_len: usize,
         reply: *mut u8,
         reply_len: usize,
-    ) -> FrameReturn;
+    ) -> Numbers;
     fn bujorelm_handle_datagram(
-        description: Description,
+        alias: u16,
+        write_lengths: u8,
+        spaces: *const u8,
+        spaces_size: usize,
         flash: *const u8,
         flash_len: usize,
         memory: *mut u8,
         memory_len: usize,
-        lock: Lock,
+        lock: *mut u8,
         datagram: *const u8,
         datagram_len: usize,
         reply: *mut u8,
         reply_len: usize,
-    ) -> DatagramReturn;
-    fn bujorelm_cut(datagram: *const u8, datagram_len: usize, destination: u16, source: u16)
-        -> Cut;
-    fn bujorelm_received_ok(board: u16, tool: u16, flags: u8) -> TransportReply;
-    fn bujorelm_rejected(board: u16, tool: u16, code: u16) -> TransportReply;
+    ) -> Numbers;
+    fn bujorelm_cut(
+        datagram: *const u8,
+        datagram_len: usize,
+        destination: u16,
+        source: u16,
+        frames: *mut u8,
+    ) -> usize;
+    fn bujorelm_received_ok(board: u16, tool: u16, flags: u8, frame: *mut u8) -> usize;
+    fn bujorelm_rejected(board: u16, tool: u16, code: u16, frame: *mut u8) -> usize;
     fn bujorelm_parse_line(line: *const u8, line_len: usize) -> Parsed;
     fn bujorelm_print_frame(frame: Frame, out: *mut u8, out_len: usize, at: usize) -> usize;
-}
-
-/// The reception state at the start.
-#[must_use]
-pub fn new_reception() -> Reception {
-    // SAFETY: the function takes nothing.
-    unsafe { bujorelm_new_reception() }
 }
 
 /// Handles a frame.
@@ -239,28 +149,33 @@ pub fn new_reception() -> Reception {
 )]
 #[inline]
 pub fn handle_frame(
-    description: &Description,
+    alias: u16,
+    write_lengths: u8,
+    spaces: &[u8],
     flash: &[u8],
     memory: &mut [u8],
-    lock: Lock,
-    pool: &mut [u8; POOL_BYTES],
-    reception: &Reception,
+    lock: &mut Lock,
+    pool: &mut Pool,
+    places: &mut Places,
     header: u32,
     payload: &[u8],
     reply: &mut [u8],
-) -> FrameReturn {
-    // SAFETY: every pointer comes with the length of the slice it is from, the pool has its one
-    // size, and Rust has seen to it that what is written to is lent to nobody else.
+) -> Numbers {
+    // SAFETY: every pointer comes with the length of the slice it is from or has its one size,
+    // and Rust has seen to it that what is written to is lent to nobody else.
     unsafe {
         bujorelm_handle_frame(
-            *description,
+            alias,
+            write_lengths,
+            spaces.as_ptr(),
+            spaces.len(),
             flash.as_ptr(),
             flash.len(),
             memory.as_mut_ptr(),
             memory.len(),
-            lock,
+            lock.as_mut_ptr(),
             pool.as_mut_ptr(),
-            *reception,
+            places.as_mut_ptr(),
             header,
             payload.as_ptr(),
             payload.len(),
@@ -271,24 +186,33 @@ pub fn handle_frame(
 }
 
 /// Handles a datagram that is handed over whole.
+#[expect(
+    clippy::too_many_arguments,
+    reason = "everything the board has is lent, each thing by itself"
+)]
 #[inline]
 pub fn handle_datagram(
-    description: &Description,
+    alias: u16,
+    write_lengths: u8,
+    spaces: &[u8],
     flash: &[u8],
     memory: &mut [u8],
-    lock: Lock,
+    lock: &mut Lock,
     datagram: &[u8],
     reply: &mut [u8],
-) -> DatagramReturn {
+) -> Numbers {
     // SAFETY: as for a frame.
     unsafe {
         bujorelm_handle_datagram(
-            *description,
+            alias,
+            write_lengths,
+            spaces.as_ptr(),
+            spaces.len(),
             flash.as_ptr(),
             flash.len(),
             memory.as_mut_ptr(),
             memory.len(),
-            lock,
+            lock.as_mut_ptr(),
             datagram.as_ptr(),
             datagram.len(),
             reply.as_mut_ptr(),
@@ -297,28 +221,42 @@ pub fn handle_datagram(
     }
 }
 
-/// Cuts a datagram into frames.
+/// Cuts a datagram into frames, and gives their number: 0 where B9 refuses it.
 #[inline]
 #[must_use]
-pub fn cut(datagram: &[u8], destination: u16, source: u16) -> Cut {
-    // SAFETY: the pointer comes with the length of its slice, which is only read.
-    unsafe { bujorelm_cut(datagram.as_ptr(), datagram.len(), destination, source) }
+pub fn cut(
+    datagram: &[u8],
+    destination: u16,
+    source: u16,
+    frames: &mut [u8; FRAMES_SIZE],
+) -> usize {
+    // SAFETY: the first pointer comes with the length of its slice, which is only read; the room
+    // for frames has its one size and is lent to nobody else.
+    unsafe {
+        bujorelm_cut(
+            datagram.as_ptr(),
+            datagram.len(),
+            destination,
+            source,
+            frames.as_mut_ptr(),
+        )
+    }
 }
 
-/// The frame of Received OK.
+/// Makes the frame of Received OK, and gives 1; 0 where there is none.
 #[inline]
 #[must_use]
-pub fn received_ok(board: u16, tool: u16, flags: u8) -> TransportReply {
-    // SAFETY: only numbers go over.
-    unsafe { bujorelm_received_ok(board, tool, flags) }
+pub fn received_ok(board: u16, tool: u16, flags: u8, frame: &mut [u8; FRAME_SIZE]) -> usize {
+    // SAFETY: the room for the frame has its one size and is lent to nobody else.
+    unsafe { bujorelm_received_ok(board, tool, flags, frame.as_mut_ptr()) }
 }
 
-/// The frame of Rejected.
+/// Makes the frame of Rejected, and gives 1; 0 where there is none.
 #[inline]
 #[must_use]
-pub fn rejected(board: u16, tool: u16, code: u16) -> TransportReply {
-    // SAFETY: only numbers go over.
-    unsafe { bujorelm_rejected(board, tool, code) }
+pub fn rejected(board: u16, tool: u16, code: u16, frame: &mut [u8; FRAME_SIZE]) -> usize {
+    // SAFETY: the room for the frame has its one size and is lent to nobody else.
+    unsafe { bujorelm_rejected(board, tool, code, frame.as_mut_ptr()) }
 }
 
 /// Reads a GridConnect line without its newline.
@@ -344,26 +282,12 @@ mod tests {
 
     #[test]
     fn the_structs_have_the_layout_of_the_library() {
-        assert_eq!(size_of::<Space>(), 16);
-        assert_eq!(size_of::<Description>(), 272);
-        assert_eq!(offset_of!(Description, spaces), 16);
-        assert_eq!(size_of::<Lock>(), 6);
-        assert_eq!(size_of::<Place>(), 4);
-        assert_eq!(size_of::<Reception>(), 32);
         assert_eq!(size_of::<Numbers>(), 16);
-        assert_eq!(size_of::<DatagramReturn>(), 24);
-        assert_eq!(size_of::<FrameReturn>(), 56);
-        assert_eq!(size_of::<Frame>(), 16);
-        assert_eq!(offset_of!(Frame, bytes), 5);
-        assert_eq!(size_of::<Cut>(), 160);
-        assert_eq!(size_of::<TransportReply>(), 20);
+        assert_eq!(offset_of!(Numbers, code), 4);
+        assert_eq!(offset_of!(Numbers, reply_len), 8);
+        assert_eq!(size_of::<Frame>(), FRAME_SIZE);
+        assert_eq!(offset_of!(Frame, bytes), 8);
         assert_eq!(size_of::<Parsed>(), 20);
-    }
-
-    #[test]
-    fn a_new_reception_holds_nothing() {
-        for place in new_reception().places {
-            assert!(!place.held.get());
-        }
+        assert_eq!(offset_of!(Parsed, frame), 4);
     }
 }

@@ -1,7 +1,8 @@
 //! Holds the random input: boards good and bad, datagrams, the frames of tools, reception states
 //! and lines. It leans to the edges, where two readings of document 01 would part.
 
-use crate::ffi::{self, Flag, MOST_SPACES, PLACES, PLACE_BYTES};
+use crate::ffi::{Places, MOST_SPACES, PLACES, PLACES_SIZE, PLACE_BYTES, SPACE_SIZE};
+use crate::layout::{any_place, held, place, set_place, spaces_in, table_of, Held};
 use crate::random::Random;
 use model::Space;
 
@@ -20,13 +21,8 @@ pub struct Board {
     pub alias: u16,
     /// The Write Lengths byte.
     pub write_lengths: u8,
-    /// The spaces; over 16 to be refused.
-    pub spaces: Vec<Space>,
-    /// The count that the library is told where it has to refuse it, since it has room for 16
-    /// spaces only.
-    pub excess: usize,
-    /// What stands in the library's room for spaces behind those described.
-    pub unused: Space,
+    table: Vec<u8>,
+    spaces: Vec<Space>,
     /// How many bytes flash has.
     pub flash_len: usize,
     /// How many bytes memory has.
@@ -34,24 +30,21 @@ pub struct Board {
 }
 
 impl Board {
-    /// The description as the library takes it.
+    /// The table of spaces as the library is lent it.
     #[must_use]
-    pub fn for_library(&self) -> ffi::Description {
-        let mut spaces = [for_library(&self.unused); MOST_SPACES];
-        for (place, space) in spaces.iter_mut().zip(&self.spaces) {
-            *place = for_library(space);
-        }
-        let count = if self.spaces.len() > MOST_SPACES {
-            self.excess
-        } else {
-            self.spaces.len()
-        };
-        ffi::Description {
-            alias: self.alias,
-            write_lengths: self.write_lengths,
-            count,
-            spaces,
-        }
+    pub fn table(&self) -> &[u8] {
+        &self.table
+    }
+
+    /// The spaces that the table stands for.
+    #[must_use]
+    pub fn spaces(&self) -> &[Space] {
+        &self.spaces
+    }
+
+    fn set_table(&mut self, table: Vec<u8>) {
+        self.spaces = spaces_in(&table);
+        self.table = table;
     }
 
     /// The description as the model takes it.
@@ -62,17 +55,6 @@ impl Board {
             write_lengths: self.write_lengths,
             spaces: &self.spaces,
         }
-    }
-}
-
-fn for_library(space: &Space) -> ffi::Space {
-    ffi::Space {
-        number: space.number,
-        read_only: Flag::from(space.read_only),
-        in_flash: Flag::from(space.in_flash),
-        lowest: space.lowest,
-        highest: space.highest,
-        offset: space.offset,
     }
 }
 
@@ -152,17 +134,19 @@ pub fn good_board(random: &mut Random) -> Board {
     Board {
         alias: any_alias(random),
         write_lengths: random.byte(),
+        table: table_of(random, &spaces),
         spaces,
-        excess: excess(random),
-        unused: any_space(random),
         flash_len,
         memory_len,
     }
 }
 
-/// A count over 16, one among them whose low bits alone would do.
+/// A count over 16, some among them whose low bits alone would do.
 fn excess(random: &mut Random) -> usize {
-    random.pick(&[17, 18, 32, 256, 65_540, (1 << 32) + 4, usize::MAX])
+    if random.once_in(200) {
+        return 65_540;
+    }
+    random.pick(&[17, 17, 17, 18, 31, 32, 33, 256, 260])
 }
 
 /// A good space behind these; at least one of the two stores has a byte.
@@ -209,40 +193,70 @@ fn good_space(
 
 /// Spoils a board in one way, so that mostly one of B1 to B5 refuses it.
 pub fn spoil_board(random: &mut Random, board: &mut Board) {
-    let kind = random.below(12);
-    if board.spaces.is_empty() && kind > 2 {
-        board.spaces.push(any_space(random));
-        return;
-    }
-    let index = random.below(board.spaces.len().max(1));
-    match kind {
+    match random.below(15) {
         0 => board.alias = random.pick(&[0, 0x1000, 0x1001, 0xFFFF, 0x1000 | board.alias]),
         1 => match random.below(8) {
             0 => board.memory_len = LARGEST_STORE + 1,
             1 => board.flash_len = LARGEST_STORE + 1,
             _ => board.alias = 0x1000 + random.below(0xF000) as u16,
         },
-        2 => {
-            board.excess = excess(random);
-            while board.spaces.len() <= MOST_SPACES {
-                let space = any_space(random);
-                board.spaces.push(space);
-            }
+        2..=4 => spoil_table(random, board),
+        _ => {
+            let mut spaces = board.spaces.clone();
+            spoil_spaces(random, board, &mut spaces);
+            board.set_table(table_of(random, &spaces));
         }
-        3 | 4 => {
-            let space = &mut board.spaces[index];
+    }
+}
+
+/// Spoils the table as bytes: too many spaces, one byte other than it was, an end that is cut off
+/// or put on, or nothing but random bytes.
+fn spoil_table(random: &mut Random, board: &mut Board) {
+    let mut table = core::mem::take(&mut board.table);
+    match random.below(6) {
+        0 | 1 => {
+            let length = SPACE_SIZE * excess(random) + random.below(SPACE_SIZE);
+            let more = random.bytes(length.saturating_sub(table.len()));
+            table.extend(more);
+        }
+        2 if !table.is_empty() => {
+            let index = random.below(table.len());
+            table[index] = random.byte();
+        }
+        3 => table.truncate(random.below(table.len() + 1)),
+        4 => {
+            let length = random.between(1, 2 * SPACE_SIZE);
+            table.extend(random.bytes(length));
+        }
+        _ => {
+            let length = random.between(0, SPACE_SIZE * (MOST_SPACES + 2));
+            table = random.bytes(length);
+        }
+    }
+    board.set_table(table);
+}
+
+/// Spoils one of the spaces.
+fn spoil_spaces(random: &mut Random, board: &Board, spaces: &mut Vec<Space>) {
+    if spaces.is_empty() {
+        spaces.push(any_space(random));
+        return;
+    }
+    let index = random.below(spaces.len());
+    let space = &mut spaces[index];
+    match random.below(9) {
+        0 | 1 => {
             if space.highest == u32::MAX {
                 space.highest -= 1;
             }
             space.lowest = space.highest + 1;
         }
-        5 | 6 => {
-            let store = if board.spaces[index].in_flash {
+        2 | 3 => {
+            let store = if space.in_flash {
                 board.flash_len
             } else {
                 board.memory_len
             };
-            let space = &mut board.spaces[index];
             let size = u64::from(space.highest.saturating_sub(space.lowest)) + 1;
             match random.below(4) {
                 // One byte too far.
@@ -256,8 +270,7 @@ pub fn spoil_board(random: &mut Random, board: &mut Board) {
                 _ => (space.lowest, space.highest) = (0, u32::MAX),
             }
         }
-        7 | 8 => {
-            let space = &mut board.spaces[index];
+        4 | 5 => {
             space.read_only = false;
             if random.once_in(2) {
                 space.in_flash = true;
@@ -265,17 +278,16 @@ pub fn spoil_board(random: &mut Random, board: &mut Board) {
                 space.number = 0xFF;
             }
         }
-        9 | 10 => {
-            let number = board.spaces[random.below(board.spaces.len())].number;
-            let mut twin = board.spaces[index];
-            twin.number = number;
-            if board.spaces.len() < MOST_SPACES {
-                board.spaces.push(twin);
+        6 | 7 => {
+            let mut twin = *space;
+            twin.number = spaces[random.below(spaces.len())].number;
+            if spaces.len() < MOST_SPACES {
+                spaces.push(twin);
             } else {
-                board.spaces[index] = twin;
+                spaces[index] = twin;
             }
         }
-        _ => board.spaces[index] = any_space(random),
+        _ => *space = any_space(random),
     }
 }
 
@@ -633,52 +645,62 @@ pub fn tools(random: &mut Random, board: &Board) -> Vec<Tool> {
     tools
 }
 
-/// A sound reception state with some of these tools in it; its free places hold anything.
-pub fn sound_state(random: &mut Random, tools: &[Tool]) -> ffi::Reception {
-    let mut reception = ffi::new_reception();
+/// Places with some of these tools in them, so that B7 lets them pass; the free ones hold
+/// anything.
+pub fn sound_places(random: &mut Random, tools: &[Tool]) -> Places {
+    let mut places = [0; PLACES_SIZE];
     let mut next = 0;
-    for place in &mut reception.places {
-        let held = next < tools.len() && random.once_in(3);
-        *place = ffi::Place {
-            held: Flag::from(held),
-            len: random.byte(),
-            source: random.half(),
-        };
-        if held {
-            place.len = match random.below(4) {
+    for index in 0..PLACES {
+        let mut what = None;
+        if next < tools.len() && random.once_in(3) {
+            let len = match random.below(4) {
                 0 => random.pick(&[0, 1, 64, 71, 72]),
                 _ => random.between(0, PLACE_BYTES) as u8,
             };
-            place.source = tools[next].source;
+            let source = tools[next].source;
+            what = Some(Held { len, source });
             next += 1;
         }
+        set_place(&mut places, index, any_place(random, what));
     }
-    reception
+    places
 }
 
-/// Damages a state, so that B7 refuses it.
-pub fn damage_state(random: &mut Random, reception: &mut ffi::Reception) {
-    let index = random.below(PLACES);
-    let other = (index + random.between(1, PLACES - 1)) % PLACES;
-    let source = if reception.places[other].held.get() {
-        reception.places[other].source
-    } else {
-        random.below(0x1000) as u16
-    };
-    let place = &mut reception.places[index];
-    place.held = Flag::from(true);
-    place.len = place.len.min(PLACE_BYTES as u8);
-    match random.below(3) {
-        0 => place.len = random.pick(&[73, 74, 80, 128, 200, 255]),
-        1 => place.source = random.pick(&[0x1000, 0x1001, 0x8000, 0xFFFF, 0x1000 | source]),
-        _ => {
-            place.source = source;
-            let twin = &mut reception.places[other];
-            twin.held = Flag::from(true);
-            twin.len = twin.len.min(PLACE_BYTES as u8);
-            twin.source = source;
+/// Other bytes for places that hold the same, as a caller may leave them between two calls.
+pub fn rewrite_places(random: &mut Random, places: &mut Places) {
+    for index in 0..PLACES {
+        if random.once_in(2) {
+            let what = held(place(places, index));
+            set_place(places, index, any_place(random, what));
         }
     }
+}
+
+/// Damages places, so that B7 refuses them.
+pub fn damage_places(random: &mut Random, places: &mut Places) {
+    let index = random.below(PLACES);
+    let other = (index + random.between(1, PLACES - 1)) % PLACES;
+    let free = Held {
+        len: random.below(PLACE_BYTES + 1) as u8,
+        source: random.below(0x1000) as u16,
+    };
+    let mut damaged = held(place(places, index)).unwrap_or(free);
+    let mut twin = held(place(places, other)).unwrap_or(free);
+    match random.below(4) {
+        0 => damaged.len = random.pick(&[73, 74, 80, 128, 200, 255]),
+        1 => damaged.source = random.pick(&[0x1000, 0x1001, 0x8000, 0xFFFF, 0x1000 | free.source]),
+        2 => {
+            damaged.source = twin.source;
+            twin.len = random.below(PLACE_BYTES + 1) as u8;
+            set_place(places, other, any_place(random, Some(twin)));
+        }
+        // Nothing but random bytes, of which one place at least is too long.
+        _ => {
+            random.fill(places);
+            damaged.len |= 0x80;
+        }
+    }
+    set_place(places, index, any_place(random, Some(damaged)));
 }
 
 /// An alias that is good, or one of 16 bits.
@@ -730,20 +752,28 @@ pub fn line(random: &mut Random) -> Vec<u8> {
 #[cfg(test)]
 mod tests {
     use super::*;
+    use crate::setup::for_model;
 
     #[test]
-    fn a_good_board_is_good_and_a_damaged_state_is_not() {
+    fn a_good_board_is_good_and_damaged_places_are_not() {
         let mut random = Random::new(3);
         for _ in 0..2_000 {
-            let board = good_board(&mut random);
+            let mut board = good_board(&mut random);
             let checked =
                 model::check_description(&board.for_model(), board.flash_len, board.memory_len);
             assert_eq!(checked, Ok(()), "{board:?}");
+            assert_eq!(board.spaces, spaces_in(&board.table));
             let tools = tools(&mut random, &board);
-            let mut state = sound_state(&mut random, &tools);
-            assert_eq!(crate::setup::for_model(&state, &[0; 576]).check(), Ok(()));
-            damage_state(&mut random, &mut state);
-            assert!(crate::setup::for_model(&state, &[0; 576]).check().is_err());
+            let mut places = sound_places(&mut random, &tools);
+            let before: Vec<_> = (0..PLACES).map(|at| held(place(&places, at))).collect();
+            rewrite_places(&mut random, &mut places);
+            let after: Vec<_> = (0..PLACES).map(|at| held(place(&places, at))).collect();
+            assert_eq!(before, after);
+            assert_eq!(for_model(&places, &[0; 576]).check(), Ok(()));
+            damage_places(&mut random, &mut places);
+            assert!(for_model(&places, &[0; 576]).check().is_err());
+            spoil_board(&mut random, &mut board);
+            assert_eq!(board.spaces, spaces_in(&board.table));
         }
     }
 }

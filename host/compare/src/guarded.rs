@@ -39,6 +39,25 @@ impl Guarded {
         &mut self.all[GUARD..end]
     }
 
+    /// The bytes, where there are always so many.
+    ///
+    /// # Panics
+    ///
+    /// Where there are more or fewer.
+    #[must_use]
+    pub fn array<const N: usize>(&self) -> &[u8; N] {
+        self.bytes().try_into().expect("bytes of one size")
+    }
+
+    /// The same, to be lent.
+    ///
+    /// # Panics
+    ///
+    /// Where there are more or fewer.
+    pub fn array_mut<const N: usize>(&mut self) -> &mut [u8; N] {
+        self.bytes_mut().try_into().expect("bytes of one size")
+    }
+
     /// Whether the guards are as they were.
     #[must_use]
     pub fn is_intact(&self) -> bool {

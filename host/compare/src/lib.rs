@@ -5,6 +5,7 @@ pub mod answer;
 pub mod ffi;
 pub mod generate;
 pub mod guarded;
+pub mod layout;
 pub mod random;
 pub mod setup;
 pub mod small;

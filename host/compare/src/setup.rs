@@ -4,9 +4,10 @@
 use std::fmt::Write;
 
 use crate::answer::Answer;
-use crate::ffi::{self, PLACE_BYTES, POOL_BYTES};
-use crate::generate::{damage_state, spoil_board, Board, Incoming};
+use crate::ffi::{self, Lock, Places, Pool, PLACES, PLACE_BYTES};
+use crate::generate::{damage_places, rewrite_places, spoil_board, Board, Incoming};
 use crate::guarded::Guarded;
+use crate::layout::{self, TableKind};
 use crate::random::Random;
 use crate::tally::{By, Case, Tally};
 use model::{Reception, Unfinished};
@@ -14,11 +15,11 @@ use model::{Reception, Unfinished};
 /// What the library is lent.
 #[derive(Clone, Debug)]
 struct Library {
-    description: ffi::Description,
+    table: Guarded,
     flash: Guarded,
     memory: Guarded,
-    lock: ffi::Lock,
-    reception: ffi::Reception,
+    lock: Guarded,
+    places: Guarded,
     pool: Guarded,
     reply: Guarded,
 }
@@ -37,89 +38,77 @@ struct Model {
 #[derive(Clone, Debug)]
 struct Before {
     memory: Vec<u8>,
-    lock: ffi::Lock,
-    reception: ffi::Reception,
-    pool: [u8; POOL_BYTES],
+    lock: Lock,
+    places: Places,
+    pool: Pool,
 }
 
 /// A board, lent twice.
 #[derive(Clone, Debug)]
 pub struct Setup {
     board: Board,
+    table_kind: TableKind,
     library: Library,
     model: Model,
     before: Before,
 }
 
-/// A reception state of the library as one of the model: what the places that are held hold.
+/// A reception state of the library as one of the model: what the places that are held hold. A
+/// damaged state goes to the model in the order of the places too: twins then need not stand side
+/// by side.
 ///
 /// # Panics
 ///
 /// Never: there are as many places on either side.
 #[must_use]
-pub fn for_model(reception: &ffi::Reception, pool: &[u8; POOL_BYTES]) -> Reception {
-    let entries: Vec<Unfinished> = held(reception, pool);
+pub fn for_model(places: &Places, pool: &Pool) -> Reception {
+    let entries: Vec<Unfinished> = layout::unfinished(places, pool).collect();
     Reception::from_unfinished(&entries).expect("eight places")
 }
 
-/// The unfinished datagrams of the library's state, in the order of its places. A damaged state
-/// goes to the model in this order too: twins then need not stand side by side.
-fn held<'p>(reception: &ffi::Reception, pool: &'p [u8]) -> Vec<Unfinished<'p>> {
-    reception
-        .places
-        .iter()
-        .zip(pool.chunks_exact(PLACE_BYTES))
-        .filter(|(place, _)| place.held.get())
-        .map(|(place, bytes)| Unfinished {
-            source: place.source,
-            length: usize::from(place.len),
-            bytes: &bytes[..usize::from(place.len).min(PLACE_BYTES)],
-        })
-        .collect()
-}
-
-/// The same, in an order that does not depend on places.
-fn in_order(mut entries: Vec<Unfinished<'_>>) -> Vec<Unfinished<'_>> {
+/// Unfinished datagrams in an order that does not depend on places.
+fn in_order<'p>(entries: impl Iterator<Item = Unfinished<'p>>) -> Vec<Unfinished<'p>> {
+    let mut entries: Vec<_> = entries.collect();
     entries.sort_unstable();
     entries
 }
 
 impl Setup {
-    /// A board with random contents and this reception state.
-    pub fn new(random: &mut Random, board: Board, reception: ffi::Reception) -> Self {
+    /// A board with random contents and these places.
+    pub fn new(random: &mut Random, board: Board, places: Places) -> Self {
         let flash = random.bytes(board.flash_len);
         let memory = random.bytes(board.memory_len);
-        let mut pool = [0; POOL_BYTES];
+        let mut pool = [0; ffi::POOL_BYTES];
         random.fill(&mut pool);
         let mut lock = [0; 6];
         if random.once_in(4) {
             random.fill(&mut lock);
         }
         let model = Model {
-            reception: for_model(&reception, &pool),
+            reception: for_model(&places, &pool),
             lock,
             reply: Vec::new(),
             flash,
             memory,
         };
-        let lock = ffi::Lock { bytes: lock };
         Self {
             library: Library {
-                description: board.for_library(),
+                table: Guarded::new(board.table()),
                 flash: Guarded::new(&model.flash),
                 memory: Guarded::new(&model.memory),
-                lock,
-                reception,
+                lock: Guarded::new(&lock),
+                places: Guarded::new(&places),
                 pool: Guarded::new(&pool),
                 reply: Guarded::new(&[]),
             },
             before: Before {
                 memory: model.memory.clone(),
                 lock,
-                reception,
+                places,
                 pool,
             },
             model,
+            table_kind: TableKind::of(board.table()),
             board,
         }
     }
@@ -136,7 +125,8 @@ impl Setup {
         for _ in 0..times {
             spoil_board(random, &mut self.board);
         }
-        self.library.description = self.board.for_library();
+        self.library.table.set(self.board.table());
+        self.table_kind = TableKind::of(self.board.table());
         if self.board.flash_len != self.model.flash.len() {
             self.model.flash.resize(self.board.flash_len, 0x5A);
             self.library.flash.set(&self.model.flash);
@@ -152,10 +142,14 @@ impl Setup {
     /// The same with its reception state damaged.
     #[must_use]
     pub fn with_damaged_state(mut self, random: &mut Random) -> Self {
-        damage_state(random, &mut self.library.reception);
-        let pool = pool_of(&mut self.library.pool);
-        self.model.reception = for_model(&self.library.reception, pool);
+        damage_places(random, self.library.places.array_mut());
+        self.model.reception = for_model(self.library.places.array(), self.library.pool.array());
         self
+    }
+
+    /// Writes other bytes into the places, which hold the same by them.
+    pub fn rewrite_places(&mut self, random: &mut Random) {
+        rewrite_places(random, self.library.places.array_mut());
     }
 
     /// The datagram that this frame finishes if it finishes one.
@@ -164,8 +158,7 @@ impl Setup {
             0x1A => Some(frame.data.clone()),
             0x1D => {
                 let source = frame.header & 0xFFF;
-                held(&self.library.reception, self.library.pool.bytes())
-                    .iter()
+                layout::unfinished(self.library.places.array(), self.library.pool.bytes())
                     .find(|entry| u32::from(entry.source) == source)
                     .map(|entry| [entry.bytes, &frame.data].concat())
             }
@@ -175,9 +168,9 @@ impl Setup {
 
     /// Notes how things are, and lends both sides a reply buffer with these bytes.
     fn begin(&mut self, reply: &[u8]) {
-        self.before.lock = self.library.lock;
-        self.before.reception = self.library.reception;
-        self.before.pool.copy_from_slice(self.library.pool.bytes());
+        self.before.lock = *self.library.lock.array();
+        self.before.places = *self.library.places.array();
+        self.before.pool = *self.library.pool.array();
         self.library.reply.set(reply);
         self.model.reply.clear();
         self.model.reply.extend_from_slice(reply);
@@ -194,20 +187,19 @@ impl Setup {
         let finished = self.finished(frame);
         self.begin(reply);
         let library = &mut self.library;
-        let returned = ffi::handle_frame(
-            &library.description,
+        let answer = Answer::from(ffi::handle_frame(
+            self.board.alias,
+            self.board.write_lengths,
+            library.table.bytes(),
             library.flash.bytes(),
             library.memory.bytes_mut(),
-            library.lock,
-            pool_of(&mut library.pool),
-            &library.reception,
+            library.lock.array_mut(),
+            library.pool.array_mut(),
+            library.places.array_mut(),
             frame.header,
             &frame.data,
             library.reply.bytes_mut(),
-        );
-        library.lock = returned.lock;
-        library.reception = returned.reception;
-        let answer = Answer::from(returned.answer);
+        ));
         let model_answer = Answer::from(model::handle_frame(
             &self.board.for_model(),
             &self.model.flash,
@@ -244,16 +236,16 @@ impl Setup {
     ) -> Result<(), String> {
         self.begin(reply);
         let library = &mut self.library;
-        let returned = ffi::handle_datagram(
-            &library.description,
+        let answer = Answer::from(ffi::handle_datagram(
+            self.board.alias,
+            self.board.write_lengths,
+            library.table.bytes(),
             library.flash.bytes(),
             library.memory.bytes_mut(),
-            library.lock,
+            library.lock.array_mut(),
             datagram,
             library.reply.bytes_mut(),
-        );
-        library.lock = returned.lock;
-        let answer = Answer::from(returned.answer);
+        ));
         let model_answer = Answer::from(model::handle_datagram(
             &self.board.for_model(),
             &self.model.flash,
@@ -282,13 +274,13 @@ impl Setup {
     /// 01 says is untouched, whatever the model does.
     fn compare(&mut self, done: &Done, tally: &mut Tally) -> Result<(), &'static str> {
         let Self {
+            board,
             library,
             model,
             before,
             ..
         } = self;
         let answer = done.answer;
-        let same = |same: bool, what: &'static str| if same { Ok(()) } else { Err(what) };
         same(answer == done.model_answer, "the answers differ")?;
         same(
             library.reply.bytes() == model.reply,
@@ -298,17 +290,24 @@ impl Setup {
             library.memory.bytes() == model.memory,
             "the memories differ",
         )?;
-        same(library.lock.bytes == model.lock, "the locks differ")?;
-        same(
-            in_order(held(&library.reception, library.pool.bytes()))
-                == in_order(model.reception.unfinished().collect()),
-            "the unfinished datagrams differ",
-        )?;
+        same(library.lock.bytes() == model.lock, "the locks differ")?;
 
-        let untouched =
-            library.reception == before.reception && library.pool.bytes() == before.pool;
+        if done.by == By::Frames {
+            same(
+                in_order(layout::unfinished(
+                    library.places.array(),
+                    library.pool.bytes(),
+                )) == in_order(model.reception.unfinished()),
+                "the unfinished datagrams differ",
+            )?;
+        }
         if matches!(answer, Answer::House(_) | Answer::Ignored) || done.by == By::Whole {
-            same(untouched, "a refused call changed the reception state")?;
+            same(
+                library.places.bytes() == before.places && library.pool.bytes() == before.pool,
+                "a refused call changed the reception state",
+            )?;
+        } else {
+            compare_places(before, library, tally)?;
         }
         let written = match answer {
             Answer::Replied(length) => length,
@@ -329,14 +328,21 @@ impl Setup {
         }
         if !matches!(answer, Answer::Replied(8)) {
             same(
-                library.lock == before.lock,
+                library.lock.bytes() == before.lock,
                 "the lock is changed without 0x88",
             )?;
         }
         same(library.flash.bytes() == model.flash, "flash is changed")?;
+        same(
+            library.table.bytes() == board.table(),
+            "the table is changed",
+        )?;
         let guards = [
+            &library.table,
             &library.flash,
             &library.memory,
+            &library.lock,
+            &library.places,
             &library.pool,
             &library.reply,
         ];
@@ -344,21 +350,32 @@ impl Setup {
             guards.iter().all(|lent| lent.is_intact()),
             "a byte outside what was lent is changed",
         )?;
+        self.count(done, tally)
+    }
+
+    /// Counts what was reached.
+    fn count(&self, done: &Done, tally: &mut Tally) -> Result<(), &'static str> {
+        if !matches!(done.answer, Answer::House(_)) {
+            tally.table(done.by, self.table_kind);
+        }
         if done.joined
             && matches!(
-                answer,
+                done.answer,
                 Answer::Rejected(_) | Answer::ReceivedOk | Answer::Replied(_)
             )
         {
             tally.count(Case::Joined);
         }
+        if self.board.spaces().len() > ffi::MOST_SPACES {
+            tally.count_by(done.by, Case::TableTooLong);
+        }
         same(
             tally.answer(
                 done.by,
-                answer,
+                done.answer,
                 done.finished,
-                before.lock.bytes,
-                library.reply.bytes(),
+                self.before.lock,
+                self.library.reply.bytes(),
             ),
             "document 01 has no such answer",
         )
@@ -371,27 +388,30 @@ impl Setup {
             library,
             model,
             before,
+            ..
         } = self;
         let mut line = |name: &str, text: &str| {
             let _ = writeln!(report, "{name:17} {text}");
         };
         line("alias", &format!("{:03X}", board.alias));
         line("write lengths", &format!("{:02X}", board.write_lengths));
-        line("count for library", &library.description.count.to_string());
-        for space in &board.spaces {
+        line("table", &hex(board.table()));
+        for space in board.spaces() {
             line("space", &format!("{space:X?}"));
         }
         line("flash", &hex(&model.flash));
         line("memory before", &hex(&before.memory));
-        line("lock before", &hex(&before.lock.bytes));
+        line("lock before", &hex(&before.lock));
         line("reply before", &hex(done.reply));
-        for (place, bytes) in before
-            .reception
-            .places
-            .iter()
-            .zip(before.pool.chunks(PLACE_BYTES))
-        {
-            line("place before", &format!("{place:X?} {}", hex(bytes)));
+        for index in 0..PLACES {
+            line(
+                "place before",
+                &format!(
+                    "{} {}",
+                    hex(&layout::place(&before.places, index)),
+                    hex(pool_of(&before.pool, index))
+                ),
+            );
         }
         line("library: answer", &format!("{:X?}", done.answer));
         line("model:   answer", &format!("{:X?}", done.model_answer));
@@ -399,9 +419,10 @@ impl Setup {
         line("model:   reply", &hex(&model.reply));
         line("library: memory", &hex(library.memory.bytes()));
         line("model:   memory", &hex(&model.memory));
-        line("library: lock", &hex(&library.lock.bytes));
+        line("library: lock", &hex(library.lock.bytes()));
         line("model:   lock", &hex(&model.lock));
-        for entry in held(&library.reception, library.pool.bytes()) {
+        line("library: places", &hex(library.places.bytes()));
+        for entry in layout::unfinished(library.places.array(), library.pool.bytes()) {
             line("library: holds", &format!("{entry:X?}"));
         }
         for entry in model.reception.unfinished() {
@@ -421,10 +442,61 @@ struct Done<'c> {
     reply: &'c [u8],
 }
 
-fn pool_of(pool: &mut Guarded) -> &mut [u8; POOL_BYTES] {
-    pool.bytes_mut()
-        .try_into()
-        .expect("the pool has its one size")
+fn same(same: bool, what: &'static str) -> Result<(), &'static str> {
+    if same {
+        Ok(())
+    } else {
+        Err(what)
+    }
+}
+
+/// The places after a frame that is not refused: at most one changes, that one has the canonical
+/// bytes of what it holds, and every other place keeps all its bytes, and its part of the pool.
+fn compare_places(
+    before: &Before,
+    library: &Library,
+    tally: &mut Tally,
+) -> Result<(), &'static str> {
+    let places = library.places.array();
+    let mut changed = 0;
+    for index in 0..PLACES {
+        let old = layout::place(&before.places, index);
+        let new = layout::place(places, index);
+        let (was, is) = (layout::held(old), layout::held(new));
+        if was == is {
+            same(old == new, "a place that did not change has other bytes")?;
+            same(
+                pool_of(&before.pool, index) == pool_of(library.pool.array(), index),
+                "the pool is changed for a place that did not change",
+            )?;
+            if old != layout::canonical(was) {
+                tally.count(if was.is_some() {
+                    Case::HeldKept
+                } else {
+                    Case::FreeKept
+                });
+            }
+            continue;
+        }
+        changed += 1;
+        same(
+            new == layout::canonical(is),
+            "a place that changed has other bytes than it should",
+        )?;
+        if old != layout::canonical(was) {
+            tally.count(match (was, is) {
+                (None, _) => Case::PlaceOpened,
+                (Some(_), Some(_)) => Case::PlaceAppended,
+                (Some(_), None) => Case::PlaceFreed,
+            });
+        }
+    }
+    same(changed <= 1, "more than one place changed")
+}
+
+/// The bytes of the pool for a place.
+fn pool_of(pool: &Pool, index: usize) -> &[u8] {
+    &pool[PLACE_BYTES * index..][..PLACE_BYTES]
 }
 
 /// Bytes as digits.

@@ -1,8 +1,9 @@
 //! Holds the comparison of the smaller calls: cutting, the transport replies, and lines.
 
-use crate::ffi::{self, Frame};
+use crate::ffi::{self, Frame, FRAMES_SIZE, FRAME_SIZE};
 use crate::generate::{line, wide_alias, LAST_ALIAS};
 use crate::guarded::Guarded;
+use crate::layout::{frame_bytes, frame_in};
 use crate::random::Random;
 use crate::setup::hex;
 use crate::tally::{Case, Tally};
@@ -14,38 +15,28 @@ const NO_FRAME: Frame = Frame {
     bytes: [0; 8],
 };
 
-/// Whether both frames are the same, with zeros behind the data.
-fn same_frame(library: &Frame, model: &model::Frame) -> bool {
-    let mut bytes = [0; 8];
-    bytes[..model.data().len()].copy_from_slice(model.data());
-    library.header == model.header()
-        && usize::from(library.len) == model.data().len()
-        && library.bytes == bytes
-}
-
-/// Cuts a datagram on both sides.
+/// Cuts a datagram on both sides. What is not made, and all of the room where B9 refuses the
+/// datagram, is as it was.
 pub fn cut(random: &mut Random, tally: &mut Tally) -> Result<(), String> {
     let length = random.between(0, 80);
     let datagram = random.bytes(length);
     let destination = wide_alias(random);
     let source = wide_alias(random);
-    let library = ffi::cut(&datagram, destination, source);
+    let mut expected = random.bytes(FRAMES_SIZE);
+    let mut frames = Guarded::new(&expected);
+    let count = ffi::cut(&datagram, destination, source, frames.array_mut());
     let model = model::cut(&datagram, destination, source);
-    let made = library.count.min(ffi::MOST_FRAMES);
     let same = match &model {
-        Ok(frames) => {
-            tally.count(if frames.len() == 1 {
+        Ok(model) => {
+            tally.count(if model.len() == 1 {
                 Case::CutSingle
             } else {
                 Case::CutSeveral
             });
-            !library.refused.get()
-                && library.count == frames.len()
-                && library
-                    .frames
-                    .iter()
-                    .zip(frames.iter())
-                    .all(|(library, model)| same_frame(library, model))
+            for (room, frame) in expected.chunks_exact_mut(FRAME_SIZE).zip(model.iter()) {
+                room.copy_from_slice(&frame_bytes(frame));
+            }
+            count == model.len()
         }
         Err(house) => {
             tally.count(if length > 72 {
@@ -53,57 +44,59 @@ pub fn cut(random: &mut Random, tally: &mut Tally) -> Result<(), String> {
             } else {
                 Case::CutB9Alias
             });
-            *house == HouseNumber::B9 && library.refused.get() && library.count == 0
+            *house == HouseNumber::B9 && count == 0
         }
     };
-    let rest_empty = library.frames[made..]
-        .iter()
-        .all(|frame| *frame == NO_FRAME);
-    if same && rest_empty {
+    if same && frames.bytes() == expected && frames.is_intact() {
         return Ok(());
     }
     Err(format!(
         "cutting\ndatagram    {}\ndestination {destination:04X}\nsource      {source:04X}\n\
-         library     {library:X?}\nmodel       {model:X?}\n",
-        hex(&datagram)
+         library     {count} {}\nexpected    {}\nmodel       {model:X?}\n",
+        hex(&datagram),
+        hex(frames.bytes()),
+        hex(&expected)
     ))
 }
 
 /// Makes a transport reply on both sides. Document 01 has no frame for an alias over 4,095, and
-/// the library refuses one; the model takes its low bits and is not asked.
+/// the library makes none; the model takes its low bits and is not asked.
 pub fn transport(random: &mut Random, tally: &mut Tally) -> Result<(), String> {
     let board = wide_alias(random);
     let tool = wide_alias(random);
     let number = random.half();
     let positive = random.once_in(2);
-    let (library, model) = if positive {
+    let mut expected = [0; FRAME_SIZE];
+    random.fill(&mut expected);
+    let mut frame = Guarded::new(&expected);
+    let (count, model) = if positive {
         (
-            ffi::received_ok(board, tool, number as u8),
+            ffi::received_ok(board, tool, number as u8, frame.array_mut()),
             model::received_ok_frame(board, tool, number as u8),
         )
     } else {
         (
-            ffi::rejected(board, tool, number),
+            ffi::rejected(board, tool, number, frame.array_mut()),
             model::rejected_frame(board, tool, number),
         )
     };
-    let same = if board > LAST_ALIAS || tool > LAST_ALIAS {
-        tally.count(Case::TransportRefused);
-        library.refused.get() && library.frame == NO_FRAME
-    } else {
-        tally.count(if positive {
-            Case::ReceivedOk
-        } else {
-            Case::Rejected
-        });
-        !library.refused.get() && same_frame(&library.frame, &model)
-    };
-    if same {
+    let made = board <= LAST_ALIAS && tool <= LAST_ALIAS;
+    tally.count(match (made, positive) {
+        (false, _) => Case::TransportRefused,
+        (true, true) => Case::ReceivedOk,
+        (true, false) => Case::Rejected,
+    });
+    if made {
+        expected = frame_bytes(&model);
+    }
+    if count == usize::from(made) && frame.bytes() == expected && frame.is_intact() {
         return Ok(());
     }
     Err(format!(
-        "transport reply, Received OK: {positive}\nboard   {board:04X}\ntool    {tool:04X}\n\
-         number  {number:04X}\nlibrary {library:X?}\nmodel   {model:X?}\n"
+        "transport reply, Received OK: {positive}\nboard    {board:04X}\ntool     {tool:04X}\n\
+         number   {number:04X}\nlibrary  {count} {}\nexpected {}\n",
+        hex(frame.bytes()),
+        hex(&expected)
     ))
 }
 
@@ -114,7 +107,7 @@ pub fn parse(random: &mut Random, tally: &mut Tally) -> Result<(), String> {
     let model = model::parse_line(&line);
     let same = if let Some(model) = &model {
         tally.count(Case::LineGood);
-        library.good.get() && same_frame(&library.frame, model)
+        library.good.get() && library.frame == frame_in(&frame_bytes(model))
     } else {
         tally.count(Case::LineBad);
         !library.good.get() && library.frame == NO_FRAME
@@ -133,11 +126,12 @@ pub fn parse(random: &mut Random, tally: &mut Tally) -> Result<(), String> {
 pub fn print(random: &mut Random, tally: &mut Tally) -> Result<(), String> {
     let mut frame = Frame {
         header: random.word(),
-        len: random.below(9) as u8,
+        len: random.below(9) as u32,
         bytes: [0; 8],
     };
     if random.once_in(8) {
-        frame.len = random.pick(&[9, 16, 255]);
+        // Some of them with low bits that alone would do.
+        frame.len = random.pick(&[9, 16, 255, 0x104, 0x1_0002, 0x0800_0000, u32::MAX]);
     }
     random.fill(&mut frame.bytes);
     let length = random.between(0, 80);
@@ -152,7 +146,7 @@ pub fn print(random: &mut Random, tally: &mut Tally) -> Result<(), String> {
 
     let mut expected = before.clone();
     let mut expected_end = at;
-    let data = frame.bytes.get(..usize::from(frame.len));
+    let data = frame.bytes.get(..frame.len as usize);
     if let Some(frame) = data.and_then(|data| model::Frame::new(frame.header, data)) {
         let mut text = [0; LONGEST_LINE];
         let text = [model::print_line(&frame, &mut text), b"\n"].concat();

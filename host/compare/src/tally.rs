@@ -3,6 +3,7 @@
 
 use crate::answer::Answer;
 use crate::generate::COMMANDS;
+use crate::layout::TableKind;
 
 macro_rules! cases {
     ($($(#[$doc:meta])* $name:ident = $text:literal, $here:ident;)*) => {
@@ -101,6 +102,24 @@ cases! {
     LockReleased = "lock, released", Both;
     /// 0xA8.
     UpdateComplete = "update complete", Both;
+    /// A table that is not refused, with a byte for yes that is not 1.
+    TableFlags = "table, yes by a byte that is not 1", Both;
+    /// A table that is not refused, with bytes behind its last space.
+    TableBehind = "table, bytes behind the last space", Both;
+    /// A table that is not refused, with 16 spaces.
+    TableFull = "table, 16 spaces", Both;
+    /// A table with over 16 spaces.
+    TableTooLong = "table, over 16 spaces", Both;
+    /// A place that was free with other bytes than zeros, opened.
+    PlaceOpened = "place opened, over other bytes", Small;
+    /// A place that was held with other bytes than the library writes, appended to.
+    PlaceAppended = "place appended to, over other bytes", Small;
+    /// A place that was held with other bytes than the library writes, finished or dropped.
+    PlaceFreed = "place freed, over other bytes", Small;
+    /// A place that is held with other bytes than the library writes, and keeps them.
+    HeldKept = "place held, other bytes kept", Small;
+    /// A place that is free with other bytes than zeros, and keeps them.
+    FreeKept = "place free, other bytes kept", Small;
     /// A datagram of several frames.
     Joined = "datagram finished by a Last", Small;
     /// A cut datagram in one frame.
@@ -158,6 +177,27 @@ impl Tally {
     /// Counts a case of the smaller calls.
     pub fn count(&mut self, case: Case) {
         self.cases[0][case as usize] += 1;
+    }
+
+    /// Counts a case of a call that came in one of two ways.
+    pub fn count_by(&mut self, by: By, case: Case) {
+        self.cases[by as usize][case as usize] += 1;
+    }
+
+    /// Counts what is to be seen of a table that is not refused.
+    pub fn table(&mut self, by: By, kind: TableKind) {
+        let TableKind {
+            other_flags,
+            bytes_behind,
+            full,
+        } = kind;
+        for (is, case) in [
+            (other_flags, Case::TableFlags),
+            (bytes_behind, Case::TableBehind),
+            (full, Case::TableFull),
+        ] {
+            self.cases[by as usize][case as usize] += u64::from(is);
+        }
     }
 
     /// Counts the answer of a call, with the finished datagram, if there is one, the lock before

@@ -2,7 +2,8 @@
 //! memory, lock and unfinished datagrams have a history.
 
 use crate::answer::Answer;
-use crate::generate::{datagram, good_board, sound_state, tools, Tool};
+use crate::ffi::PLACES_SIZE;
+use crate::generate::{datagram, good_board, sound_places, tools, Tool};
 use crate::random::Random;
 use crate::setup::Setup;
 use crate::small;
@@ -20,13 +21,13 @@ impl World {
     pub fn new(random: &mut Random) -> Self {
         let board = good_board(random);
         let tools = tools(random, &board);
-        let reception = if random.once_in(2) {
-            sound_state(random, &tools)
+        let places = if random.once_in(2) {
+            sound_places(random, &tools)
         } else {
-            crate::ffi::new_reception()
+            [0; PLACES_SIZE]
         };
         Self {
-            setup: Setup::new(random, board, reception),
+            setup: Setup::new(random, board, places),
             tools,
             calls_left: random.between(50, 600),
         }
@@ -43,6 +44,9 @@ impl World {
         self.calls_left -= 1;
         match random.below(100) {
             0..=54 => {
+                if random.once_in(8) {
+                    self.setup.rewrite_places(random);
+                }
                 let tool = random.below(self.tools.len());
                 let frame = self.tools[tool].frame(random, self.setup.board());
                 let answer = self.setup.frame(&frame, &buffer(random, false), tally)?;

@@ -1,50 +1,39 @@
 //! Holds what document 01 says of the demonstration board, asked of the library through its C
 //! edge: the session, and the whole datagrams.
 
-use compare::ffi::{self, Description, Flag, Lock, Space, MOST_SPACES, POOL_BYTES};
+use compare::ffi::{self, Frame, Lock, Places, Pool};
+use compare::layout::frame_in;
 
 const ALIAS: u16 = 0x22B;
+const WRITE_LENGTHS: u8 = 0xF2;
+
+/// The table of spaces, byte by byte: number, read-only, in flash, a byte that means nothing, and
+/// lowest, highest and offset with the least significant byte first.
+const TABLE: [[u8; 16]; 4] = [
+    [0xFD, 0, 0, 0, 0, 0, 0, 0, 0x1F, 0, 0, 0, 0, 0, 0, 0],
+    [0xFE, 0, 0, 0, 0, 0, 0, 0, 0x2F, 0, 0, 0, 0, 0, 0, 0],
+    [0xFF, 1, 1, 0, 0, 0, 0, 0, 0x0F, 0, 0, 0, 0, 0, 0, 0],
+    [0x10, 0, 0, 0, 0, 1, 0, 0, 0x0F, 1, 0, 0, 32, 0, 0, 0],
+];
 
 struct Demonstration {
-    description: Description,
+    table: Vec<u8>,
     flash: [u8; 16],
     memory: [u8; 48],
     lock: Lock,
-    pool: [u8; POOL_BYTES],
-    reception: ffi::Reception,
+    pool: Pool,
+    places: Places,
     reply: [u8; 72],
 }
 
-fn space(number: u8, (lowest, highest): (u32, u32), read_only: bool, offset: u32) -> Space {
-    Space {
-        number,
-        read_only: Flag::from(read_only),
-        // The one read-only space of this board is the one in flash.
-        in_flash: Flag::from(read_only),
-        lowest,
-        highest,
-        offset,
-    }
-}
-
 fn demonstration() -> Demonstration {
-    let mut spaces = [space(0, (0, 0), false, 0); MOST_SPACES];
-    spaces[0] = space(0xFD, (0, 0x1F), false, 0);
-    spaces[1] = space(0xFE, (0, 0x2F), false, 0);
-    spaces[2] = space(0xFF, (0, 0x0F), true, 0);
-    spaces[3] = space(0x10, (0x100, 0x10F), false, 32);
     Demonstration {
-        description: Description {
-            alias: ALIAS,
-            write_lengths: 0xF2,
-            count: 4,
-            spaces,
-        },
+        table: TABLE.concat(),
         flash: *b"<cdi/>\0\0\0\0\0\0\0\0\0\0",
         memory: [0; 48],
-        lock: Lock { bytes: [0; 6] },
-        pool: [0; POOL_BYTES],
-        reception: ffi::new_reception(),
+        lock: [0; 6],
+        pool: [0; ffi::POOL_BYTES],
+        places: [0; ffi::PLACES_SIZE],
         reply: [0xEE; 72],
     }
 }
@@ -57,56 +46,61 @@ impl Demonstration {
             return;
         }
         let frame = parsed.frame;
-        let done = ffi::handle_frame(
-            &self.description,
+        let answer = ffi::handle_frame(
+            ALIAS,
+            WRITE_LENGTHS,
+            &self.table,
             &self.flash,
             &mut self.memory,
-            self.lock,
+            &mut self.lock,
             &mut self.pool,
-            &self.reception,
+            &mut self.places,
             frame.header,
-            &frame.bytes[..usize::from(frame.len)],
+            &frame.bytes[..frame.len as usize],
             &mut self.reply,
         );
-        self.lock = done.lock;
-        self.reception = done.reception;
         let tool = (frame.header & 0xFFF) as u16;
-        let answer = done.answer;
-        match answer.kind {
+        let mut first = [0xEE; ffi::FRAME_SIZE];
+        let made = match answer.kind {
             1 | 2 => return,
-            3 | 4 => print(&ffi::rejected(ALIAS, tool, answer.code).frame, out),
-            5 | 6 => print(&ffi::received_ok(ALIAS, tool, answer.flags).frame, out),
+            3 | 4 => ffi::rejected(ALIAS, tool, answer.code, &mut first),
+            5 | 6 => ffi::received_ok(ALIAS, tool, answer.flags, &mut first),
             other => panic!("kind {other}, house number {}", answer.house),
-        }
+        };
+        assert_eq!(made, 1);
+        print(frame_in(&first), out);
         if answer.kind == 6 {
-            let cut = ffi::cut(&self.reply[..answer.reply_len], tool, ALIAS);
-            for frame in &cut.frames[..cut.count] {
-                print(frame, out);
+            let mut frames = [0xEE; ffi::FRAMES_SIZE];
+            let count = ffi::cut(&self.reply[..answer.reply_len], tool, ALIAS, &mut frames);
+            for frame in frames.chunks_exact(ffi::FRAME_SIZE).take(count) {
+                print(frame_in(frame.try_into().expect("sixteen bytes")), out);
             }
         }
     }
 
     /// The reply to a whole datagram, or the code of its rejection.
     fn datagram(&mut self, datagram: &[u8]) -> Vec<u8> {
-        let done = ffi::handle_datagram(
-            &self.description,
+        let answer = ffi::handle_datagram(
+            ALIAS,
+            WRITE_LENGTHS,
+            &self.table,
             &self.flash,
             &mut self.memory,
-            self.lock,
+            &mut self.lock,
             datagram,
             &mut self.reply,
         );
-        match done.answer.kind {
-            4 => done.answer.code.to_be_bytes().to_vec(),
-            6 => self.reply[..done.answer.reply_len].to_vec(),
+        match answer.kind {
+            4 => answer.code.to_be_bytes().to_vec(),
+            6 => self.reply[..answer.reply_len].to_vec(),
             other => panic!("kind {other}"),
         }
     }
 }
 
-fn print(frame: &ffi::Frame, out: &mut Vec<u8>) {
+fn print(frame: Frame, out: &mut Vec<u8>) {
     let mut line = [0; 29];
-    let end = ffi::print_frame(*frame, &mut line, 0);
+    let end = ffi::print_frame(frame, &mut line, 0);
     out.extend_from_slice(&line[..end]);
 }
 

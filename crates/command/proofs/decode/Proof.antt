@@ -1,9 +1,8 @@
 -- `decode` meets its contract: each answer by the law of its case.
 -- Assumes nothing.
-use mathlib.Core.Path.{ap, _∙_}
-use Rattle.command.specs.Commands.{kindOf}
-use Rattle.command.proofs.Laws.{decode-empty, decode-long, decode-other, decode-bare, decode-command}
+use mathlib.Core.Path.{_∙_}
 use borrow.Author.Needs.{needs}
+use Rattle.command.proofs.Laws.{decode-empty, decode-long, decode-other, decode-bare, decode-command}
 use Rattle.command.proofs.decode.Statement.{statement}
 use Rattle.command.proofs.decode.Tie as tie
 
@@ -19,24 +18,11 @@ returns-3 c = decode-other (c .before .before .before .before .before .args .dat
 returns-4 : tie.Need-returns-4
 returns-4 c = decode-bare (c .before .before .before .before .before .before .args .datagram .now) (c .before .before .before .before .if1 .left) (c .before .before .before .if2 .left) (c .before .if3 .left) (c .if4 .taken)
 
-decode-kind-requires : tie.Need-decode-kind-requires
-decode-kind-requires c κs = c .kind-of .ensures ∙ ap kindOf (c .before .command-in .ensures)
-
 returns-5 : tie.Need-returns-5
 returns-5 c =
-    let d = c .before .before .before .before .before .before .before .before .before .args .datagram .now in
-    c .decode-kind .ensures ∙ decode-command d (c .before .before .before .before .before .before .before .if1 .left) (c .before .before .before .before .before .before .if2 .left) (c .before .before .before .before .if3 .left) (c .before .before .before .if4 .left) (c .before .kind-of .ensures ∙ ap kindOf (c .before .before .command-in .ensures))
+    let o = c .before .before .before .before in
+    c .decode-kind .ensures ∙ decode-command (o .before .before .before .args .datagram .now) (o .before .if1 .left) (o .if2 .left) (c .before .before .if3 .left) (c .before .if4 .left)
 
 pub decode-spec : {M : Type 1} → statement M
 decode-spec =
-    tie.close
-    (tie.spec
-    returns
-    returns-2
-    (λ c. search needs)
-    returns-3
-    returns-4
-    (λ c κs. search needs)
-    (λ c κs. search needs)
-    decode-kind-requires
-    returns-5)
+    tie.close (tie.spec returns returns-2 (λ c. search needs) returns-3 returns-4 (λ c κs. search needs) returns-5)

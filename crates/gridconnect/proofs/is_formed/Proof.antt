@@ -1,40 +1,75 @@
 -- `is_formed` meets its contract: at each return the tests that were passed, and the one that failed.
 -- Assumes nothing.
-use mathlib.Core.Path.{refl}
+use Prim.Native.Nat.{ℕ, _-_, _%_, _≤_, _<_}
+use mathlib.Core.Path.{_≡_, refl, sym, _∙_}
+use mathlib.Core.Bool.{Bool, true, false, _&&_}
+use mathlib.Core.List.{List}
 use borrow.Author.Needs.{needs}
 use borrow.Author.Tests.{le-leb, lt-leb, eq-eqb, ne-eqb}
+use lib.Bits.{bitAnd, and-mask}
+use lib.Dec.{eqb}
+use lib.ListN.{length, getD}
 use Rattle.gridconnect.specs.Line.{formed}
-use Rattle.gridconnect.proofs.LineLaws.{pass, stop}
 use Rattle.gridconnect.proofs.is_formed.Statement.{statement}
 use Rattle.gridconnect.proofs.is_formed.Tie as tie
 
+-- a test that is passed, and one that fails
+pass : (a : Bool) {b x : Bool} → a ≡ true → x ≡ b → x ≡ (a && b)
+pass a e q = rw e q
+
+stop : (a b : Bool) → a ≡ false → false ≡ (a && b)
+stop a b e = rw e
+
+abbrev marks : List ℕ → Bool
+marks s = eqb (getD s 0 0) 58 && (eqb (getD s 1 0) 88 && (eqb (getD s 10 0) 78 && eqb (getD s (length s - 1) 0) 59))
+
+-- the three tests of the length
+module _ (s : List ℕ) where
+  short : length s < 12 → false ≡ formed s
+  unfolding formed
+  short h = rw (lt-leb 12 (length s) h)
+
+  module _ (h : 12 ≤ length s) where
+    long : 28 < length s → false ≡ formed s
+    unfolding formed
+    long k = simp (le-leb 12 (length s) h, lt-leb (length s) 28 k)
+
+    module _ (k : length s ≤ 28) where
+      odd : (bitAnd (length s) 1 ≡ 0 → ⊥) → false ≡ formed s
+      unfolding formed
+      odd f = simp (le-leb 12 (length s) h, le-leb (length s) 28 k, ne-eqb (length s % 2) 0 (λ e. f (and-mask (length s) 1 ∙ e)))
+
+      sized : bitAnd (length s) 1 ≡ 0 → marks s ≡ formed s
+      unfolding formed
+      sized e = simp (le-leb 12 (length s) h, le-leb (length s) 28 k, eq-eqb (length s % 2) 0 (sym (and-mask (length s) 1) ∙ e))
+
+by-marks : (c : tie.Else3) → marks (c .before .before .before .args .line .now) ≡ formed (c .before .before .before .args .line .now)
+by-marks c = sized (c .before .before .before .args .line .now) (c .before .before .if1 .left) (c .before .if2 .left) (c .if3 .left)
+
 returns : tie.Need-returns
-unfolding formed
-returns c = stop _ _ (lt-leb 12 _ (c .if1 .taken))
+returns c = short (c .before .args .line .now) (c .if1 .taken)
 
 returns-2 : tie.Need-returns-2
-unfolding formed
-returns-2 c = pass _ (le-leb 12 _ (c .before .if1 .left)) (stop _ _ (lt-leb _ 28 (c .if2 .taken)))
+returns-2 c = long (c .before .before .args .line .now) (c .before .if1 .left) (c .if2 .taken)
 
 returns-3 : tie.Need-returns-3
-unfolding formed
-returns-3 c = pass _ (le-leb 12 _ (c .before .before .if1 .left)) (pass _ (le-leb _ 28 (c .before .if2 .left)) (stop _ _ (ne-eqb _ 0 (c .if3 .taken))))
+returns-3 c = odd (c .before .before .before .args .line .now) (c .before .before .if1 .left) (c .before .if2 .left) (c .if3 .taken)
 
 returns-4 : tie.Need-returns-4
-unfolding formed
-returns-4 c = pass _ (le-leb 12 _ (c .before .before .before .before .if1 .left)) (pass _ (le-leb _ 28 (c .before .before .before .if2 .left)) (pass _ (eq-eqb _ 0 (c .before .before .if3 .left)) (stop _ _ (ne-eqb _ 58 (c .if4 .taken)))))
+returns-4 c = stop _ _ (ne-eqb _ 58 (c .if4 .taken)) ∙ by-marks (c .before .before)
 
 returns-5 : tie.Need-returns-5
-unfolding formed
-returns-5 c = pass _ (le-leb 12 _ (c .before .before .before .before .before .before .if1 .left)) (pass _ (le-leb _ 28 (c .before .before .before .before .before .if2 .left)) (pass _ (eq-eqb _ 0 (c .before .before .before .before .if3 .left)) (pass _ (eq-eqb _ 58 (c .before .before .if4 .left)) (stop _ _ (ne-eqb _ 88 (c .if5 .taken))))))
+returns-5 c = pass _ (eq-eqb _ 58 (c .before .before .if4 .left)) (stop _ _ (ne-eqb _ 88 (c .if5 .taken))) ∙ by-marks (c .before .before .before .before)
 
 returns-6 : tie.Need-returns-6
-unfolding formed
-returns-6 c = pass _ (le-leb 12 _ (c .before .before .before .before .before .before .before .before .if1 .left)) (pass _ (le-leb _ 28 (c .before .before .before .before .before .before .before .if2 .left)) (pass _ (eq-eqb _ 0 (c .before .before .before .before .before .before .if3 .left)) (pass _ (eq-eqb _ 58 (c .before .before .before .before .if4 .left)) (pass _ (eq-eqb _ 88 (c .before .before .if5 .left)) (stop _ _ (ne-eqb _ 78 (c .if6 .taken)))))))
+returns-6 c =
+    pass _ (eq-eqb _ 58 (c .before .before .before .before .if4 .left)) (pass _ (eq-eqb _ 88 (c .before .before .if5 .left)) (stop _ _ (ne-eqb _ 78 (c .if6 .taken))))
+    ∙ by-marks (c .before .before .before .before .before .before)
 
 returns-7 : tie.Need-returns-7
-unfolding formed
-returns-7 c = pass _ (le-leb 12 _ (c .before .before .before .before .before .before .before .before .before .if1 .left)) (pass _ (le-leb _ 28 (c .before .before .before .before .before .before .before .before .if2 .left)) (pass _ (eq-eqb _ 0 (c .before .before .before .before .before .before .before .if3 .left)) (pass _ (eq-eqb _ 58 (c .before .before .before .before .before .if4 .left)) (pass _ (eq-eqb _ 88 (c .before .before .before .if5 .left)) (pass _ (eq-eqb _ 78 (c .before .if6 .left)) refl)))))
+returns-7 c =
+    pass _ (eq-eqb _ 58 (c .before .before .before .before .before .if4 .left)) (pass _ (eq-eqb _ 88 (c .before .before .before .if5 .left)) (pass _ (eq-eqb _ 78 (c .before .if6 .left)) refl))
+    ∙ by-marks (c .before .before .before .before .before .before .before)
 
 pub is-formed-spec : {M : Type 1} → statement M
 is-formed-spec =

@@ -1,0 +1,35 @@
+-- `decode_write` meets its contract: each answer by the law of its case.
+-- Assumes nothing.
+use native.Mathlib.Omega.{arith}
+use borrow.Author.Needs.{needs}
+use Rattle.command.proofs.Laws.{write-length, write-right}
+use Rattle.command.proofs.decode_write.Statement.{statement}
+use Rattle.command.proofs.decode_write.Tie as tie
+
+returns : tie.Need-returns
+returns c =
+    let o = c .before in
+    write-length (o .before .before .before .args .datagram .now) (o .before .form-in .ensures) (o .head-length .ensures) (λ l h. omega arith)
+
+returns-2 : tie.Need-returns-2
+returns-2 c =
+    let o = c .before .before in
+    write-length (o .before .before .before .args .datagram .now) (o .before .form-in .ensures) (o .head-length .ensures) (λ l h. omega arith)
+
+returns-3 : tie.Need-returns-3
+returns-3 c =
+    let o = c .before .before .before in
+    rw (c .target-of .ensures .0, c .target-of .ensures .1)
+    (write-right (o .before .before .before .args .datagram .now) (o .before .form-in .ensures) (o .head-length .ensures) (omega arith) (c .before .if2 .left))
+
+pub decode-write-spec : {M : Type 1} → statement M
+decode-write-spec =
+    tie.close
+    (tie.spec
+    (λ c κs. search needs)
+    (λ c κs. search needs)
+    returns
+    (λ c. search needs)
+    returns-2
+    (λ c κs. search needs)
+    returns-3)

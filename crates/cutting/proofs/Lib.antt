@@ -1,0 +1,3 @@
+pub mod FrameLaws
+pub mod CutLaws
+pub mod RoundTrip

@@ -1,0 +1,86 @@
+-- The proof of the cycle of calls {cut_rest}. The measure is the length of the rest.
+-- Assumes nothing.
+use Prim.Native.Nat.{ℕ, _+_, _-_, _<_}
+use mathlib.Core.Path.{_≡_, ap, _∙_}
+use native.Mathlib.Omega.{arith}
+use native.Mathlib.Nat.{le-of-eq}
+use lib.ListN.{length, take, drop, length-drop}
+use lib.Seq.{length-take-le}
+use borrow.Author.Needs.{needs}
+use borrow.Fn.Kinds.{In}
+use borrow.Fn.PlainCycle.{Measures, is, falls, and}
+use Rattle.cutting.specs.Cutting.{restFrames}
+use Rattle.cutting.proofs.FrameLaws.{frame-ends, frame-goes-on}
+use Rattle.cutting.proofs.CutLaws.{rest-last, rest-several, behind-eight}
+use Rattle.cutting.proofs.cut.cut_rest.Reads as cut-rest
+use Rattle.cutting.proofs.cut.cut_rest.Kinds as cut-rest-kinds
+use Rattle.cutting.proofs.cut.+cut_rest.Lts-cut_rest as cut-rest-lts
+use Rattle.cutting.proofs.frames.header_of.Reads as header-of-reads
+use Rattle.frame.proofs.put_frame.Reads as put-frame-reads
+use Rattle.cutting.proofs.cut.+cut_rest.{statement}
+use Rattle.cutting.proofs.cut.+cut_rest.Tie.{close}
+
+abbrev μ-cut-rest : Measures 2 cut-rest-kinds.ps ℕ
+μ-cut-rest κs a = length (a .0 .now)
+
+abbrev cut-rest-at : ℕ → In 2 cut-rest-kinds.ps
+cut-rest-at t = and 2 cut-rest-kinds.ps (is 2 cut-rest-kinds.ps μ-cut-rest t) cut-rest.Pre
+
+abbrev cut-rest-below : ℕ → In 2 cut-rest-kinds.ps
+cut-rest-below t =
+    and 2 cut-rest-kinds.ps (falls 2 cut-rest-kinds.ps _<_ μ-cut-rest t) cut-rest.Pre
+
+-- what is known of the functions that it calls, itself among them
+abbrev claims : ℕ → cut-rest-lts.Claims
+claims t =
+    (header-of-reads.Asked, header-of-reads.Learnt, put-frame-reads.Asked, put-frame-reads.Learnt, cut-rest-below t, cut-rest.Post)
+
+cut-rest-returns : (t : ℕ) → cut-rest-lts.Need-returns (claims t) (cut-rest-at t) cut-rest.Post
+cut-rest-returns t c =
+    let a = c .before .before .before .before .before .before .before .before .args in
+    let xs = a .rest .now in
+    frame-ends (a .n) (restFrames (a .destination) (a .source) xs) (a .out .now) (omega arith) xs (rest-last (a .destination) (a .source) xs (omega arith)) (omega arith)
+    (c .before .before .before .before .header-of .ensures) (c .before .before .put-frame .ensures)
+
+cut-rest-slice-aggregate-put-frame : (t : ℕ) → cut-rest-lts.Need-slice-aggregate-put-frame (claims t) (cut-rest-at t) cut-rest.Post
+cut-rest-slice-aggregate-put-frame t c =
+    let xs = c .before .before .before .before .before .before .args .rest .now in
+    let m : length (take 8 xs) ≡ 8 = length-take-le 8 xs (omega arith) in
+    search needs
+
+cut-rest-cut-rest-requires : (t : ℕ) → cut-rest-lts.Need-cut-rest-requires (claims t) (cut-rest-at t) cut-rest.Post
+cut-rest-cut-rest-requires t c κs =
+    let a = c .before .before .before .before .before .before .before .before .before .before .before .args in
+    let xs = a .rest .now in
+    let l : length (take (length xs - 8) (drop 8 xs)) ≡ length xs - 8 = ap length (behind-eight xs) ∙ length-drop 8 xs in
+    let m : length (restFrames (a .destination) (a .source) xs) ≡ 1 + length (restFrames (a .destination) (a .source) (take (length xs - 8) (drop 8 xs)))
+    = rw (rest-several (a .destination) (a .source) xs (omega arith)) (omega arith) in
+    search needs
+
+cut-rest-returns-2 : (t : ℕ) → cut-rest-lts.Need-returns-2 (claims t) (cut-rest-at t) cut-rest.Post
+cut-rest-returns-2 t c =
+    let a = c .before .before .before .before .before .before .before .before .before .before .before .before .before .before .args in
+    let xs = a .rest .now in
+    frame-goes-on (a .n) (restFrames (a .destination) (a .source) xs) (a .out .now) (omega arith) (take 8 xs) (restFrames (a .destination) (a .source) (take (length xs - 8) (drop 8 xs)))
+    (rest-several (a .destination) (a .source) xs (omega arith)) (le-of-eq (length-take-le 8 xs (omega arith)))
+    (c .before .before .before .before .before .before .before .before .before .before .header-of2 .ensures) (c .before .before .before .before .before .before .before .put-frame2 .ensures) (c .before .before .cut-rest .ensures)
+
+pub +cut-rest-spec : {M : Type 1} → statement M
++cut-rest-spec = close μ-cut-rest λ t. cut-rest-lts.spec (claims t)
+    (cut-rest-at t)
+    cut-rest.Post
+    (λ c κs. search needs)
+    (λ c κs. search needs)
+    (λ c. search needs)
+    (λ c. search needs)
+    (cut-rest-returns t)
+    (λ c κs. search needs)
+    (cut-rest-slice-aggregate-put-frame t)
+    (λ c κs. search needs)
+    (λ c. search needs)
+    (λ c. search needs)
+    (λ c. search needs)
+    (λ c. search needs)
+    (cut-rest-cut-rest-requires t)
+    (λ c. search needs)
+    (cut-rest-returns-2 t)

@@ -1,0 +1,38 @@
+-- `handle` meets its contract.
+-- Assumes nothing.
+use mathlib.Core.Path.{_≡_, refl, sym, ap, _∙_}
+use Rattle.command.specs.Decoding.{readingOf}
+use Rattle.command.proofs.Laws.{AllowedIn, allowed}
+use Rattle.handler.specs.Performing.{handle}
+use borrow.Author.Needs.{needs}
+use Rattle.handler.proofs.handle.Statement.{statement}
+use Rattle.handler.proofs.handle.Tie as tie
+
+returns : tie.Need-returns
+unfolding handle
+returns c =
+    rw (← c .before .before .before .decode .ensures, c .before .decoded .given .1)
+    (record { answer = record { answer = refl; buffer = refl }; memory = refl; lock = refl; short = tt })
+
+perform-requires : tie.Need-perform-requires
+perform-requires c κs =
+    let d = c .before .before .before .before .before .before .before .before .before .before .before .before .args .datagram .now in
+    let v = sym (c .before .before .before .before .before .before .decode .ensures) ∙ ap (λ r. readingOf r d) (c .before .before .before .before .decoded2 .given .1) in
+    rw v at (allowed d)
+
+returns-2 : tie.Need-returns-2
+unfolding handle
+returns-2 c = rw (← c .before .before .before .before .before .before .before .before .before .before .before .decode .ensures, c .before .before .before .before .before .before .before .before .before .decoded2 .given .1) (c .before .before .before .before .perform .ensures)
+
+pub handle-spec : {M : Type 1} → statement M
+handle-spec =
+    tie.close
+    (tie.spec
+    (λ c κs. search needs)
+    (λ c. search needs)
+    returns
+    (λ c. search needs)
+    perform-requires
+    (λ c. search needs)
+    (λ c. search needs)
+    returns-2)

@@ -1,0 +1,40 @@
+// Frames joined into datagrams.
+ghost use Rattle.frame.specs.Frame.{canFrame};
+ghost use Rattle.reception.specs.Reception.{receive};
+ghost use Rattle.reception.specs.PlaceBytes.{stateIn};
+ghost use Rattle.joining.specs.Joins.{Joins};
+
+mod unfinished;
+
+// What a frame brings about. A finished datagram is the frame's own data, or the part of the pool from the first number up to the second.
+pub enum Outcome {
+    BadState,
+    Ignored,
+    NoAnswer,
+    Refuse(u16),
+    InFrame,
+    InPool(usize, usize),
+}
+
+// A frame received by the board with that alias: what it brings about, and the places and the pool afterwards. B7 is tested first. Data
+// over 8 bytes are ignored here already, so that what joins a frame can count on at most 8.
+pub fn join(
+    pool: &mut [u8; 576],
+    places: &mut [u8; 64],
+    alias: u16,
+    header: u32,
+    payload: &[u8],
+) -> Outcome
+    ensures { λ o. ⌜ Joins (receive alias (stateIn (now (places .entry)) (now (pool .entry))) (canFrame header (now (payload .entry)))) (now (payload .entry)) o (now (places .entry)) (now (places .exit)) (now (pool .exit)) ⌝ }
+{
+    let source = frame::source_of(header);
+    let i = places::look_up(places, source);
+    if i == 9 {
+        return Outcome::BadState;
+    }
+    if 8 < payload.len() {
+        return Outcome::Ignored;
+    }
+    let role = frame::role_of(alias, header, payload.len());
+    unfinished::join_sound(pool, places, role, source, payload, i)
+}

@@ -1,0 +1,168 @@
+-- Laws of the places as bytes: the place at an index, and the bytes after a change of one place.
+-- Assumes nothing.
+use mathlib.Core.Path.{_≡_, refl, sym, ap, _∙_}
+use mathlib.Core.Bool.{Bool, true, false, cond, not, _&&_}
+use mathlib.Core.List.{List, [], _∷_, _++_}
+use Prim.Native.Nat.{ℕ, zero, suc, _+_, _*_, _/_, _%_, _≤_, _<_}
+use native.Mathlib.Nat.{add-zero, le-of-suc-le-suc, not-suc-le-zero}
+use native.Mathlib.Omega.{arith}
+use lib.Dec.{eqb}
+use lib.ListN.{length, take, drop, getD, set, length-drop, take-append-drop, List·getD-eq-default}
+use lib.Seq.{drop-drop, getD-drop}
+use borrow.Author.Tests.{eq-eqb, ne-eqb}
+use Rattle.buffer.specs.Buffer.{putAt, placed}
+use Rattle.buffer.proofs.Laws.{placed-fits, put-first, take-before, drop-put}
+use Rattle.reception.specs.Place.{Place, place, freePlace}
+use Rattle.reception.specs.PlaceBytes.{placeIn, placesFrom, placesIn, placeBytes, samePlace, renewed}
+
+-- ---- the place at an index
+
+from-length : (n : ℕ) (xs : List ℕ) → length (placesFrom n xs) ≡ n
+from-length zero xs = refl
+from-length (suc n) xs = ap suc (from-length n _)
+
+from-at : (n i : ℕ) (xs : List ℕ) → i < n → getD (placesFrom n xs) i freePlace ≡ placeIn (drop (8 * i) xs)
+from-at zero i xs h = absurd (not-suc-le-zero h)
+from-at (suc n) zero xs h = refl
+from-at (suc n) (suc i) xs h =
+    let m : 8 * suc i ≡ 8 + 8 * i = omega arith in
+    rw (m, ← drop-drop (8 * i) 8 xs) (from-at n i (drop 8 xs) (le-of-suc-le-suc h))
+
+pub places-length : (xs : List ℕ) → length (placesIn xs) ≡ 8
+unfolding placesIn
+places-length xs = from-length 8 xs
+
+module _ (xs : List ℕ) (i : ℕ) where
+  pub at-none : 8 ≤ i → getD (placesIn xs) i freePlace ≡ freePlace
+  at-none h = List·getD-eq-default (placesIn xs) freePlace (rw (places-length xs) h)
+
+  module _ (h : i < 8) where
+    at : getD (placesIn xs) i freePlace ≡ placeIn (drop (8 * i) xs)
+    unfolding placesIn
+    at = from-at 8 i xs h
+
+    byte : (k : ℕ) → getD (drop (8 * i) xs) k 0 ≡ getD xs (8 * i + k) 0
+    byte k = getD-drop (8 * i) xs k 0
+
+    pub held-at : getD (placesIn xs) i freePlace .held ≡ not (eqb (getD xs (8 * i) 0) 0)
+    held-at = rw (at, byte 0, add-zero)
+
+    pub len-at : getD (placesIn xs) i freePlace .len ≡ getD xs (8 * i + 1) 0
+    len-at = rw (at, byte 1)
+
+    pub source-at : getD (placesIn xs) i freePlace .source ≡ getD xs (8 * i + 2) 0 + getD xs (8 * i + 3) 0 * 256
+    source-at = rw (at, byte 2, byte 3)
+
+-- ---- one place
+
+held-byte : (b : Bool) → not (eqb (cond b 1 0) 0) ≡ b
+held-byte true = refl
+held-byte false = refl
+
+two-bytes : (n : ℕ) → n % 256 + n / 256 * 256 ≡ n
+two-bytes n = omega arith
+
+bytes-place : (p : Place) (xs : List ℕ) → placeIn (placeBytes p ++ xs) ≡ p
+bytes-place p xs =
+    ap (λ (h : Bool). place h (p .len) (p .source % 256 + p .source / 256 * 256)) (held-byte (p .held))
+    ∙ ap (place (p .held) (p .len)) (two-bytes (p .source))
+
+place-front : (xs : List ℕ) → placeIn (take 8 xs) ≡ placeIn xs
+place-front [] = refl
+place-front (a ∷ []) = refl
+place-front (a ∷ b ∷ []) = refl
+place-front (a ∷ b ∷ c ∷ []) = refl
+place-front (a ∷ b ∷ c ∷ d ∷ xs) = refl
+
+same-refl : (p : Place) → samePlace p p ≡ true
+unfolding samePlace
+same-refl p = rw (eq-eqb (p .len) (p .len) refl, eq-eqb (p .source) (p .source) refl) (go (p .held))
+  where
+    go : (b : Bool) → cond b b (not b) && true ≡ true
+    go true = refl
+    go false = refl
+
+-- ---- place i becomes p
+
+from-kept : (n : ℕ) (xs : List ℕ) → renewed (placesFrom n xs) xs ≡ xs
+from-kept zero xs = refl
+from-kept (suc n) xs = rw (same-refl (placeIn xs), from-kept n (drop 8 xs)) (take-append-drop 8 xs)
+
+pub renewed-same : (xs : List ℕ) → xs ≡ renewed (placesIn xs) xs
+unfolding placesIn
+renewed-same xs = sym (from-kept 8 xs)
+
+module _ (p : Place) where
+  front : (xs : List ℕ) → putAt (8 * 0) (placeBytes p) xs ≡ placeBytes p ++ drop 8 xs
+  front xs = put-first (placeBytes p) xs
+
+  -- a place behind the first
+  module _ (i : ℕ) (xs : List ℕ) (h : 8 + 8 * i ≤ length xs) where
+    abbrev after : List ℕ
+    after = putAt (8 + 8 * i) (placeBytes p) xs
+
+    first-kept : take 8 after ≡ take 8 xs
+    first-kept = take-before (8 + 8 * i) (placeBytes p) xs h 8 (omega arith)
+
+    rest-put : drop 8 after ≡ putAt (8 * i) (placeBytes p) (drop 8 xs)
+    rest-put = drop-put 8 (8 * i) (placeBytes p) xs h
+
+    head : placeIn after ≡ placeIn xs
+    head = sym (place-front after) ∙ ap placeIn first-kept ∙ place-front xs
+
+    split : take 8 xs ++ putAt (8 * i) (placeBytes p) (drop 8 xs) ≡ after
+    split = rw (← first-kept, ← rest-put) (take-append-drop 8 after)
+
+  from-put : (n i : ℕ) (xs : List ℕ) → i < n → 8 * n ≤ length xs → placesFrom n (putAt (8 * i) (placeBytes p) xs) ≡ set (placesFrom n xs) i p
+  from-put zero i xs h l = absurd (not-suc-le-zero h)
+  from-put (suc n) zero xs h l = rw (front xs) (ap (λ (q : Place). q ∷ placesFrom n (drop 8 xs)) (bytes-place p (drop 8 xs)))
+  from-put (suc n) (suc i) xs h l =
+      let m : 8 * suc i ≡ 8 + 8 * i = omega arith in
+      let k : 8 + 8 * i ≤ length xs = omega arith in
+      let ih = from-put n i (drop 8 xs) (le-of-suc-le-suc h) (rw length-drop (omega arith)) in
+      rw m
+      (ap (λ (q : Place). q ∷ placesFrom n (drop 8 (after i xs k))) (head i xs k)
+      ∙ ap (λ (ys : List ℕ). placeIn xs ∷ placesFrom n ys) (rest-put i xs k)
+      ∙ ap (λ (qs : List Place). placeIn xs ∷ qs) ih)
+
+  from-renewed : (n i : ℕ) (xs : List ℕ) → i < n → 8 * n ≤ length xs → samePlace (getD (placesFrom n xs) i freePlace) p ≡ false →
+      renewed (set (placesFrom n xs) i p) xs ≡ putAt (8 * i) (placeBytes p) xs
+  from-renewed zero i xs h l d = absurd (not-suc-le-zero h)
+  from-renewed (suc n) zero xs h l d = rw (d, from-kept n (drop 8 xs)) (sym (front xs))
+  from-renewed (suc n) (suc i) xs h l d =
+      let m : 8 * suc i ≡ 8 + 8 * i = omega arith in
+      let k : 8 + 8 * i ≤ length xs = omega arith in
+      rw (same-refl (placeIn xs), m, from-renewed n i (drop 8 xs) (le-of-suc-le-suc h) (rw length-drop (omega arith)) d) (split i xs k)
+
+-- place i of the 64 bytes xs has become p
+pub record Changed (i : ℕ) (p : Place) (xs after : List ℕ) : Type 0 where
+  pub inside : i < 8
+  pub size : length xs ≡ 64
+  pub bytes : after ≡ placed (8 * i) (placeBytes p) xs
+
+module _ {i : ℕ} {p : Place} {xs after : List ℕ} (c : Changed i p xs after) where
+  put : after ≡ putAt (8 * i) (placeBytes p) xs
+  put = c .bytes ∙ placed-fits (8 * i) (placeBytes p) xs (omega arith)
+
+  pub changed-places : placesIn after ≡ set (placesIn xs) i p
+  unfolding placesIn
+  changed-places = ap placesIn put ∙ from-put p 8 i xs (c .inside) (omega arith)
+
+  pub changed-bytes : samePlace (getD (placesIn xs) i freePlace) p ≡ false → after ≡ renewed (set (placesIn xs) i p) xs
+  unfolding placesIn
+  changed-bytes d = put ∙ sym (from-renewed p 8 i xs (c .inside) (omega arith) d)
+
+-- ---- a place that is changed
+
+pub differ-held : (p q : Place) (b : Bool) → p .held ≡ b → q .held ≡ not b → samePlace p q ≡ false
+unfolding samePlace
+differ-held p q true e f = rw (e, f)
+differ-held p q false e f = rw (e, f)
+
+pub differ-len : (p q : Place) → (p .len ≡ q .len → ⊥) → samePlace p q ≡ false
+unfolding samePlace
+differ-len p q n = rw (ne-eqb (p .len) (q .len) n) (go (cond (p .held) (q .held) (not (q .held))))
+  where
+    go : (b : Bool) → b && false ≡ false
+    go true = refl
+    go false = refl

@@ -1,0 +1,15 @@
+-- `reception::new_places` meets its contract: eight free places hold nothing for anybody.
+-- Assumes nothing.
+use mathlib.Core.Path.{refl}
+use Rattle.reception.specs.Reception.{isFor}
+use Rattle.reception.specs.PlaceBytes.{placesIn}
+use Rattle.reception.proofs.Order.{join-order}
+use Rattle.reception.proofs.new_places.Statement.{statement}
+use Rattle.reception.proofs.new_places.Tie as tie
+
+returns : tie.Need-returns
+unfolding isFor placesIn
+returns c = (refl, (refl, (λ pool s. refl, join-order)))
+
+pub new-places-spec : {M : Type 1} → statement M
+new-places-spec = tie.close (tie.spec returns)

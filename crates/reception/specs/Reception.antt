@@ -1,0 +1,150 @@
+-- Document 01, "Joining frames", 0x2040, 0x2000 and 0x2020 of "Refused because of the state", and B7: the reception state, and a frame
+-- joined to it.
+use Prim.Native.Nat.{ℕ, suc, _+_, _*_}
+use mathlib.Core.Bool.{Bool, true, false, cond, not, _&&_, _||_}
+use mathlib.Core.List.{List, [], _∷_, _++_}
+use lib.Dec.{leb, eqb}
+use lib.ListN.{length, take, drop, getD, set, replicate}
+use Rattle.buffer.specs.Buffer.{putAt}
+use Rattle.frame.specs.declared.Role.{Role}
+use Rattle.frame.specs.declared.Role.the-variants.{Ignored, Single, First, Middle, Last}
+use Rattle.frame.specs.Frame.{CanFrame, sourceOf, roleOf}
+use Rattle.reception.specs.Place.{Place, heldFor, freePlace}
+use Rattle.reception.specs.Books.{Book, blank, holds, Event, ignored, noAnswer, refuse, finish, badState, outOfOrder, temporaryError, bufferUnavailable, fits}
+
+-- ---- the state
+
+-- Eight places, and the pool that holds their bytes, 72 for each: "Up to eight sources may each have one unfinished datagram".
+pub record State : Type 0 where
+  pub places : List Place
+  pub pool : List ℕ
+
+abbrev pub state : List Place → List ℕ → State
+state ps pool = record { places = ps; pool = pool }
+
+-- The places at the start.
+abbrev pub emptyPlaces : List Place
+emptyPlaces = replicate 8 freePlace
+
+-- "A tool is known by its source alias alone."
+unfoldable pub isFor : ℕ → Place → Bool
+isFor s p = p .held && eqb (p .source) s
+
+-- "What the state has for a tool is the bytes of the unfinished datagram kept in it for that source, or nothing where it keeps none"
+abbrev pub unfinishedIn : List Place → List ℕ → ℕ → Book
+unfinishedIn [] pool s = blank
+unfinishedIn (p ∷ ps) pool s = cond (isFor s p) (holds (take (p .len) pool)) (unfinishedIn ps (drop 72 pool) s)
+
+abbrev pub unfinishedFor : State → ℕ → Book
+unfinishedFor st s = unfinishedIn (st .places) (st .pool) s
+
+-- The first place of s, and the first free one: the number of places where there is none.
+abbrev pub placeOf : ℕ → List Place → ℕ
+placeOf s [] = 0
+placeOf s (p ∷ ps) = cond (isFor s p) 0 (suc (placeOf s ps))
+
+abbrev pub freeIn : List Place → ℕ
+freeIn [] = 0
+freeIn (p ∷ ps) = cond (p .held) (suc (freeIn ps)) 0
+
+-- Whether s has a place, and whether "eight others have one".
+abbrev pub hasPlace : ℕ → List Place → Bool
+hasPlace s [] = false
+hasPlace s (p ∷ ps) = isFor s p || hasPlace s ps
+
+abbrev pub full : List Place → Bool
+full [] = true
+full (p ∷ ps) = p .held && full ps
+
+-- ---- B7
+
+-- "an unfinished datagram in it over 72 bytes, a source over 4,095, or one source twice": not so of the held place p beside the places ps.
+abbrev pub soundBeside : List Place → Place → Bool
+soundBeside ps p = leb (p .len) 72 && (leb (p .source) 4095 && not (hasPlace (p .source) ps))
+
+-- Each place beside those behind it. A free place holds no datagram, so nothing is asked of its length and source.
+abbrev pub sound : List Place → Bool
+sound [] = true
+sound (p ∷ ps) = (not (p .held) || soundBeside ps p) && sound ps
+
+-- ---- a frame joined
+
+-- Place i becomes p, and d is put behind the first k of its 72 bytes.
+abbrev pub stored : ℕ → Place → ℕ → List ℕ → State → State
+stored i p k d st = state (set (st .places) i p) (putAt (72 * i + k) d (st .pool))
+
+-- How many bytes place i holds, and these bytes.
+abbrev pub sizeAt : ℕ → List Place → ℕ
+sizeAt i ps = getD ps i freePlace .len
+
+abbrev pub bytesAt : ℕ → State → List ℕ
+bytesAt i st = take (sizeAt i (st .places)) (drop (72 * i) (st .pool))
+
+-- The unfinished datagram in place i "is dropped"; "freed room is used again".
+abbrev pub dropped : ℕ → State → State
+dropped i st = state (set (st .places) i freePlace) (st .pool)
+
+-- "First: opens one."
+abbrev pub opened : ℕ → List ℕ → State → State
+opened s d st = stored (freeIn (st .places)) (heldFor s (length d)) 0 d st
+
+-- "Middle: appends."
+abbrev pub appended : ℕ → List ℕ → ℕ → State → State
+appended s d i st = stored i (heldFor s (sizeAt i (st .places) + length d)) (sizeAt i (st .places)) d st
+
+-- "Last: appends, closes"
+abbrev pub closed : List ℕ → ℕ → State → State
+closed d i st = stored i freePlace (sizeAt i (st .places)) d st
+
+-- The state after a frame, and what the frame brings about.
+pub record Joined : Type 0 where
+  pub state : State
+  pub event : Event
+
+abbrev pub joined : State → Event → Joined
+joined st e = record { state = st; event = e }
+
+-- "Middle or Last that takes the total past 72 bytes: 0x2000, dropped": where the datagram b in place i and the data d fit, j.
+abbrev pub whereFits : ℕ → List ℕ → List ℕ → State → Joined → Joined
+whereFits i b d st j = cond (fits b d) j (joined (dropped i st) (refuse temporaryError))
+
+-- A Middle and a Last for the datagram b in place i.
+abbrev pub middleAt : ℕ → ℕ → List ℕ → List ℕ → State → Joined
+middleAt s i b d st = whereFits i b d st (joined (appended s d i st) noAnswer)
+
+abbrev pub lastAt : ℕ → List ℕ → List ℕ → State → Joined
+lastAt i b d st = whereFits i b d st (joined (closed d i st) (finish (b ++ d)))
+
+-- The rules, by what the frame is to the board, its source and data, and what the state has for that source.
+-- "Single, none unfinished from that source: a datagram, its own last frame."
+-- "Single or First while that source has one unfinished; an empty Middle; Middle or Last with none unfinished: 0x2040, and that source's
+-- unfinished datagram, if any, is dropped."
+-- "First from a source with none unfinished while eight others have one: 0x2020, nothing opened."
+-- "An empty Middle is tested before the total."
+abbrev pub joinRule : Role → ℕ → List ℕ → State → Book → Joined
+joinRule Ignored s d st b = joined st ignored
+joinRule Single s d st blank = joined st (finish d)
+joinRule Single s d st (holds b) = joined (dropped (placeOf s (st .places)) st) (refuse outOfOrder)
+joinRule First s d st blank = cond (full (st .places)) (joined st (refuse bufferUnavailable)) (joined (opened s d st) noAnswer)
+joinRule First s d st (holds b) = joined (dropped (placeOf s (st .places)) st) (refuse outOfOrder)
+joinRule Middle s d st blank = joined st (refuse outOfOrder)
+joinRule Middle s d st (holds b) =
+    cond (eqb (length d) 0) (joined (dropped (placeOf s (st .places)) st) (refuse outOfOrder)) (middleAt s (placeOf s (st .places)) b d st)
+joinRule Last s d st blank = joined st (refuse outOfOrder)
+joinRule Last s d st (holds b) = lastAt (placeOf s (st .places)) b d st
+
+-- A frame of a known role joined to a state that B7 lets pass.
+unfoldable pub joinSound : Role → ℕ → List ℕ → State → Joined
+joinSound role s d st = joinRule role s d st (unfinishedFor st s)
+
+-- A frame received. B7 comes first, "checked first at each call": "The state comes back as it was."
+unfoldable pub receive : ℕ → State → CanFrame → Joined
+receive alias st f =
+    cond (sound (st .places))
+    (joinSound (roleOf alias (f .header) (length (f .payload))) (sourceOf (f .header)) (f .payload) st)
+    (joined st badState)
+
+-- Frames joined one after the other, each to the state that the one before left: what each brings about.
+abbrev pub receiveAll : ℕ → State → List CanFrame → List Event
+receiveAll alias st [] = []
+receiveAll alias st (f ∷ fs) = let j = receive alias st f in j .event ∷ receiveAll alias (j .state) fs

@@ -1,0 +1,35 @@
+/* What the two halves of the stack test share: the calls that are measured, and what they are made on. Nothing goes to a call or comes back
+   but through these, so that the caller of a call has no locals of its own. */
+#ifndef BUJORELM_STACK_H
+#define BUJORELM_STACK_H
+
+#include "bujorelm.h"
+
+struct subject {
+    struct bujorelm_node node;
+    uint8_t flash[256];
+    uint8_t memory[256];
+    uint8_t reply[BUJORELM_REPLY_MIN];
+    uint8_t text[BUJORELM_PRINTED_MAX];
+    uint8_t datagram[80];
+    size_t datagram_len;
+    struct bujorelm_frame frame;
+    struct bujorelm_frame frames[BUJORELM_FRAMES_MAX];
+    struct bujorelm_numbers answer;
+    struct bujorelm_parsed parsed;
+    size_t count;
+    size_t printed;
+};
+
+extern struct subject subject;
+
+void call_handle_frame(void);
+void call_handle_datagram(void);
+void call_cut(void);
+void call_received_ok(void);
+void call_rejected(void);
+void call_print_frame(void);
+void call_parse_line(void);
+void call_node_receive(void);
+
+#endif

@@ -1,0 +1,247 @@
+//! Holds what the bytes at the library's edge stand for: the spaces of a table, the places of a
+//! reception state, a frame. It is written from the description of the edge and shares nothing
+//! with the library; the model knows no bytes of this kind.
+
+use crate::ffi::{
+    Frame, Places, FRAME_SIZE, MOST_SPACES, PLACES, PLACE_BYTES, PLACE_SIZE, SPACE_SIZE,
+};
+use crate::random::Random;
+use model::{Space, Unfinished};
+
+/// The spaces of a table: sixteen bytes each, and what is behind the last whole one is none.
+/// Number, read-only, in flash, a byte that means nothing; lowest, highest and offset, the least
+/// significant byte first. A byte that says yes or no says yes where it is not 0.
+#[must_use]
+pub fn spaces_in(table: &[u8]) -> Vec<Space> {
+    table
+        .chunks_exact(SPACE_SIZE)
+        .map(|bytes| Space {
+            number: bytes[0],
+            read_only: bytes[1] != 0,
+            in_flash: bytes[2] != 0,
+            lowest: word(&bytes[4..]),
+            highest: word(&bytes[8..]),
+            offset: word(&bytes[12..]),
+        })
+        .collect()
+}
+
+fn word(bytes: &[u8]) -> u32 {
+    u32::from_le_bytes([bytes[0], bytes[1], bytes[2], bytes[3]])
+}
+
+/// A table with these spaces, one of many: yes is any byte but 0, what means nothing is anything,
+/// and often there are bytes behind the last space.
+pub fn table_of(random: &mut Random, spaces: &[Space]) -> Vec<u8> {
+    let mut table = Vec::with_capacity(SPACE_SIZE * (spaces.len() + 1));
+    for space in spaces {
+        table.push(space.number);
+        table.push(flag(random, space.read_only));
+        table.push(flag(random, space.in_flash));
+        table.push(random.byte());
+        table.extend(space.lowest.to_le_bytes());
+        table.extend(space.highest.to_le_bytes());
+        table.extend(space.offset.to_le_bytes());
+    }
+    if random.once_in(3) {
+        let length = random.between(1, SPACE_SIZE - 1);
+        table.extend(random.bytes(length));
+    }
+    table
+}
+
+/// A byte that says yes or no; yes in any way.
+pub fn flag(random: &mut Random, yes: bool) -> u8 {
+    if !yes {
+        return 0;
+    }
+    match random.below(3) {
+        0 => 1,
+        1 => random.pick(&[2, 3, 0x10, 0x7F, 0x80, 0xAA, 0xFE, 0xFF]),
+        _ => random.between(1, 0xFF) as u8,
+    }
+}
+
+/// What a table has that a comparison must have seen.
+#[derive(Clone, Copy, Debug, Default)]
+pub struct TableKind {
+    /// A byte that says yes and is not 1.
+    pub other_flags: bool,
+    /// Bytes behind the last whole space.
+    pub bytes_behind: bool,
+    /// Sixteen spaces.
+    pub full: bool,
+}
+
+impl TableKind {
+    /// Of this table.
+    #[must_use]
+    pub fn of(table: &[u8]) -> Self {
+        Self {
+            other_flags: table
+                .chunks_exact(SPACE_SIZE)
+                .any(|bytes| bytes[1] > 1 || bytes[2] > 1),
+            bytes_behind: !table.len().is_multiple_of(SPACE_SIZE),
+            full: table.len() / SPACE_SIZE == MOST_SPACES,
+        }
+    }
+}
+
+/// What a place holds: so many bytes of that source.
+#[derive(Clone, Copy, Debug, PartialEq, Eq)]
+pub struct Held {
+    /// How many bytes are joined so far.
+    pub len: u8,
+    /// The alias of the tool.
+    pub source: u16,
+}
+
+/// The bytes of a place.
+#[must_use]
+pub fn place(places: &Places, index: usize) -> [u8; PLACE_SIZE] {
+    let mut bytes = [0; PLACE_SIZE];
+    bytes.copy_from_slice(&places[PLACE_SIZE * index..][..PLACE_SIZE]);
+    bytes
+}
+
+/// Puts the bytes of a place.
+pub fn set_place(places: &mut Places, index: usize, bytes: [u8; PLACE_SIZE]) {
+    places[PLACE_SIZE * index..][..PLACE_SIZE].copy_from_slice(&bytes);
+}
+
+/// What the place with these bytes holds, if anything: held where its first byte is not 0, then
+/// the length, then the source with its least significant byte first. The last four bytes mean
+/// nothing.
+#[must_use]
+pub fn held(bytes: [u8; PLACE_SIZE]) -> Option<Held> {
+    let [held, len, low, high, ..] = bytes;
+    (held != 0).then_some(Held {
+        len,
+        source: u16::from_le_bytes([low, high]),
+    })
+}
+
+/// The bytes that a place has after a call that changed it.
+#[must_use]
+pub fn canonical(held: Option<Held>) -> [u8; PLACE_SIZE] {
+    held.map_or([0; PLACE_SIZE], |Held { len, source }| {
+        let [low, high] = source.to_le_bytes();
+        [1, len, low, high, 0, 0, 0, 0]
+    })
+}
+
+/// A place that holds this, one of many: held by any byte but 0, and anything in the bytes that
+/// mean nothing.
+pub fn any_place(random: &mut Random, held: Option<Held>) -> [u8; PLACE_SIZE] {
+    let mut bytes = random.number().to_le_bytes();
+    bytes[0] = flag(random, held.is_some());
+    if let Some(Held { len, source }) = held {
+        bytes[1] = len;
+        [bytes[2], bytes[3]] = source.to_le_bytes();
+    }
+    bytes
+}
+
+/// The unfinished datagrams in the places, in their order.
+pub fn unfinished<'p>(
+    places: &'p Places,
+    pool: &'p [u8],
+) -> impl Iterator<Item = Unfinished<'p>> + 'p {
+    (0..PLACES).filter_map(move |index| {
+        let Held { len, source } = held(place(places, index))?;
+        let length = usize::from(len);
+        Some(Unfinished {
+            source,
+            length,
+            bytes: &pool[PLACE_BYTES * index..][..length.min(PLACE_BYTES)],
+        })
+    })
+}
+
+/// The bytes of a frame that the library makes: header and length, each of four bytes with the
+/// least significant first, then the data, then zeros.
+#[must_use]
+pub fn frame_bytes(frame: &model::Frame) -> [u8; FRAME_SIZE] {
+    let data = frame.data();
+    let mut bytes = [0; FRAME_SIZE];
+    bytes[..4].copy_from_slice(&frame.header().to_le_bytes());
+    bytes[4] = data.len() as u8;
+    bytes[8..8 + data.len()].copy_from_slice(data);
+    bytes
+}
+
+/// The frame in these bytes.
+///
+/// # Panics
+///
+/// Never: there are eight bytes of data.
+#[must_use]
+pub fn frame_in(bytes: &[u8; FRAME_SIZE]) -> Frame {
+    Frame {
+        header: word(&bytes[..4]),
+        len: word(&bytes[4..]),
+        bytes: bytes[8..].try_into().expect("eight bytes"),
+    }
+}
+
+#[cfg(test)]
+mod tests {
+    use super::*;
+
+    #[test]
+    fn a_table_says_what_it_was_made_of() {
+        let mut random = Random::new(5);
+        for _ in 0..2_000 {
+            let count = random.below(20);
+            let spaces: Vec<Space> = (0..count)
+                .map(|_| Space {
+                    number: random.byte(),
+                    lowest: random.word(),
+                    highest: random.word(),
+                    read_only: random.once_in(2),
+                    in_flash: random.once_in(2),
+                    offset: random.word(),
+                })
+                .collect();
+            assert_eq!(spaces_in(&table_of(&mut random, &spaces)), spaces);
+        }
+    }
+
+    #[test]
+    fn the_bytes_of_a_space_are_these() {
+        let mut table = vec![0xFD, 0, 0xAA, 7, 1, 2, 3, 4, 5, 6, 7, 8, 9, 10, 11, 12];
+        let space = Space {
+            number: 0xFD,
+            read_only: false,
+            in_flash: true,
+            lowest: 0x0403_0201,
+            highest: 0x0807_0605,
+            offset: 0x0C0B_0A09,
+        };
+        assert_eq!(spaces_in(&table), [space]);
+        table.extend([1; 15]);
+        assert_eq!(spaces_in(&table), [space]);
+        table.push(1);
+        assert_eq!(spaces_in(&table).len(), 2);
+    }
+
+    #[test]
+    fn a_place_says_what_it_was_made_of() {
+        let mut random = Random::new(6);
+        for _ in 0..2_000 {
+            let what = random.once_in(2).then(|| Held {
+                len: random.byte(),
+                source: random.half(),
+            });
+            assert_eq!(held(any_place(&mut random, what)), what);
+            assert_eq!(held(canonical(what)), what);
+        }
+        let bytes = [0xFF, 72, 0x34, 0x12, 1, 2, 3, 4];
+        let what = Held {
+            len: 72,
+            source: 0x1234,
+        };
+        assert_eq!(held(bytes), Some(what));
+        assert_eq!(canonical(Some(what)), [1, 72, 0x34, 0x12, 0, 0, 0, 0]);
+    }
+}
