@@ -30,7 +30,7 @@ END
     cp "$CARGO_TARGET_DIR/release/bench" "$work/$shift/bench"
 done
 # By turns, so that what else the machine does falls on all of them alike.
-for round in 1 2 3; do
+for _ in 1 2 3; do
     for shift in 0 16 32 48; do
         { "$work/$shift/bench" --check || true; } | sed "s/^/$shift /" >>"$work/ratios"
     done
@@ -41,7 +41,11 @@ awk '
     function median(list,    v, n, i, j, t) {
         n = split(list, v, " ")
         for (i = 2; i <= n; i++)
-            for (j = i; j > 1 && v[j - 1] + 0 > v[j] + 0; j--) { t = v[j]; v[j] = v[j - 1]; v[j - 1] = t }
+            for (j = i; j > 1 && v[j - 1] + 0 > v[j] + 0; j--) {
+                t = v[j]
+                v[j] = v[j - 1]
+                v[j - 1] = t
+            }
         return n % 2 ? v[(n + 1) / 2] : (v[n / 2] + v[n / 2 + 1]) / 2
     }
     / rows, / { next }

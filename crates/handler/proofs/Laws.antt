@@ -18,7 +18,8 @@ use Rattle.house.proofs.Laws.{bad, orElse-good}
 use Rattle.fields.specs.Commands.{spaceByte}
 use Rattle.fields.specs.declared.Form.{Form}
 use Rattle.fields.specs.declared.Form.the-variants.{NoSpace, Byte6, Fd, Fe, Ff}
-use Rattle.reply.specs.Replies.{replyHead, informationReply, accessFlag}
+use Rattle.reply.specs.Replies.{replyHead}
+use Rattle.inquiry.specs.Inquiry.{informationReply, accessFlag}
 use Rattle.reply.specs.Answers.{Result, datagramRejected, receivedOk, receivedOkReply, fitted}
 use Rattle.access.specs.Access.{readResult, writeResult}
 use Rattle.access.specs.declared.Access.{Access}

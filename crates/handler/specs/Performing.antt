@@ -11,7 +11,8 @@ use Rattle.fields.specs.Commands.{Request, read, write, writeMasked, options, i
 use Rattle.fields.specs.declared.Form.{Form}
 use Rattle.command.specs.Decoding.{Reading, rejected, request, decode}
 use Rattle.lock.specs.Lock.{testAndSet}
-use Rattle.reply.specs.Replies.{optionsReply, informationReply, lockReply}
+use Rattle.reply.specs.Replies.{lockReply}
+use Rattle.inquiry.specs.Inquiry.{optionsReply, informationReply}
 use Rattle.reply.specs.Answers.{Result, datagramRejected, receivedOk, receivedOkReply, Agrees}
 use Rattle.reply.specs.declared.Answer.{Answer}
 use Rattle.access.specs.Access.{access, readResult, writeResult, memoryAfter, storeBytes, storeMasked}

@@ -52,10 +52,10 @@ pub fn perform(
             return access::write_masked(spaces, memory, form, space, address, pairs, out);
         }
         Command::Options => {
-            return reply::options(out, write_lengths, spaces);
+            return inquiry::options(out, write_lengths, spaces);
         }
         Command::Information { space } => {
-            return reply::information(out, space, board::find_space(spaces, space));
+            return inquiry::information(out, space, board::find_space(spaces, space));
         }
         Command::Lock => {
             return reserve(&memory[..], lock, fields::rest(datagram), out);

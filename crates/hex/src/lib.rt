@@ -2,8 +2,8 @@
 // computed by shifts, masks, sums and differences within 32 bits: there is no product and no quotient on its way.
 ghost use mathlib.Core.Path.{_≡_};
 ghost use Prim.Native.Nat.{_+_, _*_, _/_, _%_};
-ghost use mathlib.Core.List.{[], _∷_};
 ghost use Rattle.buffer.specs.Buffer.{placed};
+ghost use Rattle.buffer.specs.BigEndian.{bytesOf};
 ghost use Rattle.hex.specs.Digits.{digitValue, digitOf, digitsOf, readOf, noBytes, BytesBack, hexDigits, readNumber, NumberBack};
 
 // The bytes that some digits stand for: the first `len` of eight.
@@ -139,7 +139,7 @@ pub fn put_digits(bytes: &[u8], out: &mut [u8], at: usize)
 
 // The four bytes of a number, most significant first.
 fn bytes_of(x: u32) -> [u8; 4]
-    ensures { λ r. ⌜ r ≡ x / 0x1000000 ∷ x / 0x10000 % 256 ∷ x / 256 % 256 ∷ x % 256 ∷ [] ⌝ }
+    ensures { λ r. ⌜ r ≡ bytesOf x ⌝ }
 {
     [
         (x >> 24) as u8,

@@ -4,21 +4,18 @@ use Prim.Native.Nat.{ℕ, suc, _+_, _≤_, _<_}
 use mathlib.Core.Path.{_≡_, refl, sym, ap, _∙_}
 use mathlib.Core.List.{List, [], _∷_, _++_}
 use native.Mathlib.Omega.{arith}
-use lib.ListN.{length, getD, set, length-append}
+use lib.ListN.{length, set, length-append}
 use lib.Dec.{leb}
-use borrow.Author.Tests.{eq-eqb, ne-eqb, le-leb, lt-leb}
+use borrow.Author.Tests.{le-leb, lt-leb}
 use Rattle.buffer.specs.Buffer.{over, placed}
 use Rattle.buffer.proofs.Choice.{cond-elim}
 use Rattle.buffer.proofs.Laws.{put-first, put-sets, placed-sets, put-nil, place-over}
 use Rattle.buffer.specs.BigEndian.{bytesOf}
-use Rattle.board.specs.declared.Space.{Space}
-use Rattle.board.specs.declared.Found.the-variants.{Described}
 use Rattle.fields.specs.Commands.{formBits, spaceByte}
 use Rattle.fields.specs.declared.Form.{Form}
 use Rattle.fields.specs.declared.Form.the-variants.{NoSpace, Byte6, Fd, Fe, Ff}
-use Rattle.reply.specs.Replies.{replyHead, accessFlag, informationReply}
-use Rattle.reply.specs.Answers.{Result, datagramRejected, receivedOk, receivedOkReply, fitted, answerOf, bufferOf, Agrees}
-use Rattle.reply.specs.declared.Answer.{Answer}
+use Rattle.reply.specs.Replies.{replyHead}
+use Rattle.reply.specs.Answers.{receivedOkReply, Agrees}
 use Rattle.reply.specs.declared.Answer.the-variants.{Replied}
 
 -- ---- a reply that the buffer has room for, and one that it has not
@@ -71,16 +68,3 @@ module _ (command : ℕ) (form : Form) (space address n : ℕ) (src buffer : Lis
       let q' : second ≡ over (replyHead command form space address) buffer =
       q ∙ place-over (0x20 ∷ (command + formBits form) ∷ bytesOf address) (spaceByte form space) buffer 6 p' refl (omega arith) in
       r ∙ place-over (replyHead command form space address) src buffer n q' head-length h
-
--- ---- space information
-
-module _ (n flag : ℕ) (s : Space) {h : List ℕ} (g : h ≡ bytesOf (s .highest)) (f : flag ≡ accessFlag s) where
-  pub information-zero : s .lowest ≡ 0 →
-      0x20 ∷ 0x87 ∷ n ∷ getD h 0 0 ∷ getD h 1 0 ∷ getD h 2 0 ∷ getD h 3 0 ∷ flag ∷ [] ≡ informationReply n (Described s)
-  unfolding informationReply
-  information-zero z = rw (eq-eqb (s .lowest) 0 z, g, f)
-
-  pub information-lowest : (s .lowest ≡ 0 → ⊥) → {l : List ℕ} → l ≡ bytesOf (s .lowest) →
-      0x20 ∷ 0x87 ∷ n ∷ getD h 0 0 ∷ getD h 1 0 ∷ getD h 2 0 ∷ getD h 3 0 ∷ (flag + 2) ∷ getD l 0 0 ∷ getD l 1 0 ∷ getD l 2 0 ∷ getD l 3 0 ∷ [] ≡ informationReply n (Described s)
-  unfolding informationReply
-  information-lowest z e = rw (ne-eqb (s .lowest) 0 z, g, f, e)

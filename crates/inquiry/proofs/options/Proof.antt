@@ -1,8 +1,8 @@
 -- `options` meets its contract.
 -- Assumes nothing.
 use borrow.Author.Needs.{needs}
-use Rattle.reply.proofs.options.Statement.{statement}
-use Rattle.reply.proofs.options.Tie as tie
+use Rattle.inquiry.proofs.options.Statement.{statement}
+use Rattle.inquiry.proofs.options.Tie as tie
 
 returns : tie.Need-returns
 returns c = rw (← c .before .before .before .before .before .lowest-number .ensures) (c .before .before .whole .ensures)

@@ -1,9 +1,9 @@
 -- `present` meets its contract.
 -- Assumes nothing.
 use borrow.Author.Needs.{needs}
-use Rattle.reply.proofs.Laws.{information-zero, information-lowest}
-use Rattle.reply.proofs.present.Statement.{statement}
-use Rattle.reply.proofs.present.Tie as tie
+use Rattle.inquiry.proofs.Laws.{information-zero, information-lowest}
+use Rattle.inquiry.proofs.present.Statement.{statement}
+use Rattle.inquiry.proofs.present.Tie as tie
 
 returns : tie.Need-returns
 returns c =
