@@ -1,14 +1,22 @@
 /*
  * A reference host: the demonstration board of document 01 behind GridConnect lines.
  *
- *   host              reads lines from standard input and writes the board's answers to standard output
- *   host --port N     serves lines on TCP port N of the loopback, N = 0 for any free one; the port is printed first
+ *   host                              reads lines from standard input and writes the board's answers to standard output
+ *   host --port N                     serves lines on TCP port N of the loopback, N = 0 for any free one; the port is printed first
+ *   host --port N --send-buffer B     asks the system to keep no more than B bytes for a tool itself (SO_SNDBUF)
  *
  * A line ends with a newline; the last of an input may lack it. A line that is no frame is answered by `?`. A tool that puts no newline
  * behind its frames, or a carriage return before it, is not understood: document 01 has it so.
  *
  * On TCP every tool that is connected is on one bus with the board: a frame from one of them is seen by all others, and the board's
- * answers are seen by all, in one order. A `?` is no frame, so it goes to the tool that sent the line and to nobody else.
+ * answers are seen by all, in one order. What is no frame with a 29-bit header is not on the bus: a `?` goes to the tool that sent the
+ * line and to nobody else, and a frame with a longer header goes to nobody.
+ *
+ * A tool that has ended its input is sent what waits for it, which has the answers to all of its own frames, and is then closed. It is
+ * off the bus: no frame that comes after its end is relayed to it.
+ *
+ * Nobody is waited for without a bound: there are CONNECTIONS_MAX tools at most, no more than OUTPUT_MAX bytes wait for one, and none is
+ * waited for longer than WAIT_MAX.
  */
 #define _POSIX_C_SOURCE 200809L
 
@@ -25,6 +33,7 @@
 #include <stdlib.h>
 #include <string.h>
 #include <sys/socket.h>
+#include <time.h>
 #include <unistd.h>
 
 /* How much is read at once. */
@@ -36,55 +45,51 @@
 /* While this much waits for a tool, its own lines are left unread, so that it is not dropped for asking faster than it listens. */
 #define OUTPUT_BUSY (64u * 1024u)
 
+/* How long a tool is waited for, in milliseconds: one that has something to take and takes nothing for so long is dropped, and so is one
+   that has not taken everything so long after the end of its input. */
+#define WAIT_MAX 5000
+
+/* The most that the system may be asked to keep for a tool. */
+#define SEND_BUFFER_MAX (1024L * 1024L)
+
+/* The greatest header of a frame on the bus: 29 bits. */
+#define HEADER_MAX 0x1FFFFFFFu
+
+/* The most tools at once. A connection over it is closed as soon as it is taken. */
+#define CONNECTIONS_MAX 64u
+
 /* How long no new tool is taken after the system had no descriptor for one, in milliseconds. */
 #define ACCEPT_PAUSE 100
 
 /* ---- Lines ---- */
 
-/* The beginning of a line whose end has not come, kept up to one byte more than the longest good line: what is cut off was bad already. */
-struct line {
-    size_t len;
-    uint8_t text[BUJORELM_LINE_MAX + 1];
-};
+typedef void (*take_line_function)(void *context, const struct bujorelm_parsed *line);
 
-typedef void take_line(void *context, const uint8_t *text, size_t len);
-
-static void line_append(struct line *line, const uint8_t *part, size_t len)
+/* Calls `take` with each line that the block completes; what is left is kept in the carry. */
+static void lines_feed(struct bujorelm_carry *carry, const uint8_t *block, size_t len, take_line_function take, void *context)
 {
-    const size_t room = sizeof line->text - line->len;
-    const size_t kept = len < room ? len : room;
+    size_t at = 0;
 
-    if (kept != 0) {
-        memcpy(line->text + line->len, part, kept);
-        line->len += kept;
-    }
-}
+    while (at < len) {
+        const struct bujorelm_line line = bujorelm_next_line(block, len, at, *carry);
 
-/* Calls `take` with each line that the block completes, without its newline, and keeps what is left. */
-static void lines_feed(struct line *line, const uint8_t *block, size_t len, take_line *take, void *context)
-{
-    while (len != 0) {
-        const uint8_t *const newline = memchr(block, '\n', len);
-        const size_t part = newline == NULL ? len : (size_t)(newline - block);
-
-        line_append(line, block, part);
-        if (newline == NULL) {
-            return;
+        if (line.complete) {
+            take(context, &line.parsed);
         }
-        take(context, line->text, line->len);
-        line->len = 0;
-        block += part + 1;
-        len -= part + 1;
+        *carry = line.carry;
+        at = line.at;
     }
 }
 
-/* The end of the input. */
-static void lines_end(struct line *line, take_line *take, void *context)
+/* The end of the input: its last line may lack the newline. */
+static void lines_end(struct bujorelm_carry *carry, take_line_function take, void *context)
 {
-    if (line->len != 0) {
-        take(context, line->text, line->len);
-        line->len = 0;
+    const struct bujorelm_line line = bujorelm_last_line(*carry);
+
+    if (line.complete) {
+        take(context, &line.parsed);
     }
+    *carry = line.carry;
 }
 
 /* ---- The board ---- */
@@ -131,7 +136,7 @@ static bool would_block(int error)
 /* Answers that are not written yet. */
 struct pipe_host {
     struct board board;
-    struct line line;
+    struct bujorelm_carry carry;
     size_t len;
     uint8_t out[8192];
 };
@@ -170,13 +175,12 @@ static bool pipe_send(void *context, const struct bujorelm_frame *frame)
     return true;
 }
 
-static void pipe_line(void *context, const uint8_t *text, size_t len)
+static void pipe_line(void *context, const struct bujorelm_parsed *line)
 {
     struct pipe_host *const host = context;
-    const struct bujorelm_parsed parsed = bujorelm_parse_line(text, len);
 
-    if (parsed.good) {
-        (void)bujorelm_node_receive(&host->board.node, parsed.frame.header, parsed.frame.bytes, parsed.frame.len, pipe_send, host, NULL);
+    if (line->good) {
+        (void)bujorelm_node_receive(&host->board.node, line->frame.header, line->frame.bytes, line->frame.len, pipe_send, host, NULL);
     } else {
         pipe_room(host);
         memcpy(host->out + host->len, "?\n", 2);
@@ -194,10 +198,10 @@ static int run_pipe(void)
         const ssize_t count = read(STDIN_FILENO, block, sizeof block);
 
         if (count > 0) {
-            lines_feed(&host.line, block, (size_t)count, pipe_line, &host);
+            lines_feed(&host.carry, block, (size_t)count, pipe_line, &host);
             pipe_flush(&host);
         } else if (count == 0) {
-            lines_end(&host.line, pipe_line, &host);
+            lines_end(&host.carry, pipe_line, &host);
             pipe_flush(&host);
             return EXIT_SUCCESS;
         } else if (would_block(errno)) {
@@ -213,11 +217,14 @@ static int run_pipe(void)
 /* A connected tool. What waits for it is `out` from `sent` up to `len`. */
 struct tool {
     int fd;
+    /* Since when it is waited for: when something began to wait for it, or when it last took some of that. After the end of its input that
+       no longer counts: then it is the time of the end. */
+    int64_t since;
     /* Its input has ended: it is dropped once it has been sent what waits for it. */
     bool ended;
     /* It is closed and taken out of the list before the next poll. */
     bool dropped;
-    struct line line;
+    struct bujorelm_carry carry;
     uint8_t *out;
     size_t sent;
     size_t len;
@@ -228,10 +235,12 @@ struct hub {
     struct board board;
     int listener;
     bool accept_paused;
-    struct tool *tools;
+    /* What the system is asked to keep for a tool, or 0 for what it likes. */
+    int send_buffer;
     size_t count;
-    size_t room;
-    struct pollfd *polled;
+    struct tool tools[CONNECTIONS_MAX];
+    /* The listener is polled too. */
+    struct pollfd polled[CONNECTIONS_MAX + 1];
 };
 
 /* A line on its way to the hub, with the index of the tool that sent it. */
@@ -247,9 +256,26 @@ static bool set_nonblocking(int fd)
     return flags >= 0 && fcntl(fd, F_SETFL, flags | O_NONBLOCK) == 0;
 }
 
+/* Milliseconds on a clock that nobody sets. */
+static int64_t now(void)
+{
+    struct timespec t;
+
+    if (clock_gettime(CLOCK_MONOTONIC, &t) != 0) {
+        fail("clock");
+    }
+    return (int64_t)t.tv_sec * 1000 + t.tv_nsec / 1000000;
+}
+
 static size_t tool_waiting(const struct tool *tool)
 {
     return tool->len - tool->sent;
+}
+
+static void tool_drop(struct tool *tool, const char *why)
+{
+    tool->dropped = true;
+    fprintf(stderr, "host: a connection is closed: %s\n", why);
 }
 
 /* Sends what the tool takes now. */
@@ -260,6 +286,9 @@ static void tool_flush(struct tool *tool)
 
         if (count >= 0) {
             tool->sent += (size_t)count;
+            if (!tool->ended) {
+                tool->since = now();
+            }
         } else if (would_block(errno)) {
             return;
         } else if (errno != EINTR) {
@@ -273,6 +302,14 @@ static void tool_flush(struct tool *tool)
     }
 }
 
+/* Drops a tool that has been waited for too long. */
+static void tool_time(struct tool *tool, int64_t time)
+{
+    if (!tool->dropped && tool_waiting(tool) != 0 && time - tool->since >= WAIT_MAX) {
+        tool_drop(tool, tool->ended ? "it has not taken the answers since its input ended" : "it takes nothing");
+    }
+}
+
 /* Puts bytes behind what waits for the tool. One that lets too much wait is dropped; one that has ended gets no more than the answers to
    what it sent. */
 static void tool_append(struct tool *tool, const uint8_t *bytes, size_t len)
@@ -280,13 +317,16 @@ static void tool_append(struct tool *tool, const uint8_t *bytes, size_t len)
     if (tool->dropped || tool->ended) {
         return;
     }
+    if (tool_waiting(tool) == 0) {
+        tool->since = now();
+    }
     if (tool->size - tool->len < len && tool->sent != 0) {
         memmove(tool->out, tool->out + tool->sent, tool_waiting(tool));
         tool->len -= tool->sent;
         tool->sent = 0;
     }
     if (OUTPUT_MAX - tool->len < len) {
-        tool->dropped = true;
+        tool_drop(tool, "too much waits for it");
         return;
     }
     if (tool->size - tool->len < len) {
@@ -295,7 +335,7 @@ static void tool_append(struct tool *tool, const uint8_t *bytes, size_t len)
         uint8_t *const out = realloc(tool->out, size);
 
         if (out == NULL) {
-            tool->dropped = true;
+            tool_drop(tool, "there is no memory for what waits for it");
             return;
         }
         tool->out = out;
@@ -326,15 +366,16 @@ static bool hub_send(void *context, const struct bujorelm_frame *frame)
     return true;
 }
 
-static void hub_line(void *context, const uint8_t *text, size_t len)
+static void hub_line(void *context, const struct bujorelm_parsed *line)
 {
     const struct arrival *const arrival = context;
     struct hub *const hub = arrival->hub;
-    const struct bujorelm_parsed parsed = bujorelm_parse_line(text, len);
 
-    if (parsed.good) {
-        hub_relay(hub, &parsed.frame, arrival->from);
-        (void)bujorelm_node_receive(&hub->board.node, parsed.frame.header, parsed.frame.bytes, parsed.frame.len, hub_send, hub, NULL);
+    if (line->good) {
+        if (line->frame.header <= HEADER_MAX) {
+            hub_relay(hub, &line->frame, arrival->from);
+        }
+        (void)bujorelm_node_receive(&hub->board.node, line->frame.header, line->frame.bytes, line->frame.len, hub_send, hub, NULL);
     } else {
         tool_append(&hub->tools[arrival->from], (const uint8_t *)"?\n", 2);
     }
@@ -349,51 +390,31 @@ static void hub_read(struct hub *hub, size_t from)
     const ssize_t count = recv(tool->fd, block, sizeof block, 0);
 
     if (count > 0) {
-        lines_feed(&tool->line, block, (size_t)count, hub_line, &arrival);
+        lines_feed(&tool->carry, block, (size_t)count, hub_line, &arrival);
     } else if (count == 0) {
-        lines_end(&tool->line, hub_line, &arrival);
+        lines_end(&tool->carry, hub_line, &arrival);
         tool->ended = true;
+        tool->since = now();
     } else if (errno != EINTR && !would_block(errno)) {
         tool->dropped = true;
     }
 }
 
-/* Makes room for one more tool. */
-static bool hub_grow(struct hub *hub)
-{
-    const size_t room = hub->room == 0 ? 8 : 2 * hub->room;
-    struct tool *const tools = realloc(hub->tools, room * sizeof *tools);
-    struct pollfd *polled;
-
-    if (tools == NULL) {
-        return false;
-    }
-    hub->tools = tools;
-    /* The listener is polled too. */
-    polled = realloc(hub->polled, (room + 1) * sizeof *polled);
-    if (polled == NULL) {
-        return false;
-    }
-    hub->polled = polled;
-    hub->room = room;
-    return true;
-}
-
 static void hub_accept(struct hub *hub)
 {
     const int one = 1;
-    int fd;
+    const int fd = accept(hub->listener, NULL, NULL);
 
-    if (hub->count == hub->room && !hub_grow(hub)) {
-        hub->accept_paused = true;
-        return;
-    }
-    fd = accept(hub->listener, NULL, NULL);
     if (fd < 0) {
         /* A tool that has gone again is none; without a descriptor for it the listener would be ready again at once. */
         if (errno == EMFILE || errno == ENFILE || errno == ENOBUFS || errno == ENOMEM) {
             hub->accept_paused = true;
         }
+        return;
+    }
+    if (hub->count == CONNECTIONS_MAX) {
+        fprintf(stderr, "host: a connection is closed: there are %u already\n", CONNECTIONS_MAX);
+        close(fd);
         return;
     }
     if (!set_nonblocking(fd)) {
@@ -402,6 +423,9 @@ static void hub_accept(struct hub *hub)
     }
     /* A frame is short and somebody waits for it. Without this it is only later. */
     (void)setsockopt(fd, IPPROTO_TCP, TCP_NODELAY, &one, sizeof one);
+    if (hub->send_buffer != 0) {
+        (void)setsockopt(fd, SOL_SOCKET, SO_SNDBUF, &hub->send_buffer, sizeof hub->send_buffer);
+    }
     hub->tools[hub->count++] = (struct tool){.fd = fd};
 }
 
@@ -452,57 +476,84 @@ static int hub_listen(uint16_t port)
     return fd;
 }
 
+/* How long the next poll may take, in milliseconds: until the first tool has been waited for too long. */
+static int hub_timeout(const struct hub *hub)
+{
+    const int64_t time = now();
+    int64_t timeout = hub->accept_paused ? ACCEPT_PAUSE : -1;
+
+    for (size_t i = 0; i < hub->count; i++) {
+        const struct tool *const tool = &hub->tools[i];
+        const int64_t left = tool->since + WAIT_MAX - time;
+
+        if (tool_waiting(tool) != 0 && (timeout < 0 || left < timeout)) {
+            timeout = left < 0 ? 0 : left;
+        }
+    }
+    return (int)timeout;
+}
+
+static void hub_poll(struct hub *hub)
+{
+    hub->polled[0] = (struct pollfd){.fd = hub->accept_paused ? -1 : hub->listener, .events = POLLIN};
+    for (size_t i = 0; i < hub->count; i++) {
+        const struct tool *const tool = &hub->tools[i];
+        short events = 0;
+
+        if (!tool->ended && tool_waiting(tool) < OUTPUT_BUSY) {
+            events |= POLLIN;
+        }
+        if (tool_waiting(tool) != 0) {
+            events |= POLLOUT;
+        }
+        hub->polled[i + 1] = (struct pollfd){.fd = tool->fd, .events = events};
+    }
+    while (poll(hub->polled, (nfds_t)(hub->count + 1), hub_timeout(hub)) < 0) {
+        if (errno != EINTR) {
+            fail("poll");
+        }
+    }
+    hub->accept_paused = false;
+}
+
+/* Takes in what the last poll found at a tool. */
+static void hub_serve(struct hub *hub, size_t i)
+{
+    struct tool *const tool = &hub->tools[i];
+    const struct pollfd *const polled = &hub->polled[i + 1];
+
+    if (tool->dropped) {
+        return;
+    }
+    if ((polled->revents & (POLLERR | POLLNVAL)) != 0) {
+        tool->dropped = true;
+    } else if ((polled->events & POLLIN) != 0 && (polled->revents & (POLLIN | POLLHUP)) != 0) {
+        hub_read(hub, i);
+    } else if ((polled->revents & POLLHUP) != 0) {
+        /* Gone in both directions: nobody takes what waits. */
+        tool->dropped = true;
+    }
+}
+
 /* Does not return. */
-static void run_hub(uint16_t port)
+static void run_hub(uint16_t port, int send_buffer)
 {
     static struct hub hub;
 
     board_start(&hub.board);
+    hub.send_buffer = send_buffer;
     hub.listener = hub_listen(port);
-    if (!hub_grow(&hub)) {
-        fail("memory");
-    }
     for (;;) {
-        const size_t count = hub.count;
-        const int timeout = hub.accept_paused ? ACCEPT_PAUSE : -1;
+        int64_t time;
 
-        hub.polled[0] = (struct pollfd){.fd = hub.accept_paused ? -1 : hub.listener, .events = POLLIN};
-        for (size_t i = 0; i < count; i++) {
-            const struct tool *const tool = &hub.tools[i];
-            short events = 0;
-
-            if (!tool->ended && tool_waiting(tool) < OUTPUT_BUSY) {
-                events |= POLLIN;
-            }
-            if (tool_waiting(tool) != 0) {
-                events |= POLLOUT;
-            }
-            hub.polled[i + 1] = (struct pollfd){.fd = tool->fd, .events = events};
+        hub_poll(&hub);
+        for (size_t i = 0; i < hub.count; i++) {
+            hub_serve(&hub, i);
         }
-        if (poll(hub.polled, (nfds_t)(count + 1), timeout) < 0) {
-            if (errno == EINTR) {
-                continue;
-            }
-            fail("poll");
-        }
-        hub.accept_paused = false;
-        for (size_t i = 0; i < count; i++) {
-            const short ready = hub.polled[i + 1].revents;
-
-            if (hub.tools[i].dropped) {
-                continue;
-            }
-            if ((ready & (POLLERR | POLLNVAL)) != 0) {
-                hub.tools[i].dropped = true;
-            } else if ((hub.polled[i + 1].events & POLLIN) != 0 && (ready & (POLLIN | POLLHUP)) != 0) {
-                hub_read(&hub, i);
-            } else if ((ready & POLLHUP) != 0) {
-                /* Gone in both directions: nobody takes what waits. */
-                hub.tools[i].dropped = true;
-            }
-        }
-        for (size_t i = 0; i < count; i++) {
+        time = now();
+        for (size_t i = 0; i < hub.count; i++) {
             tool_flush(&hub.tools[i]);
+            tool_time(&hub.tools[i], time);
         }
         hub_sweep(&hub);
         if (hub.polled[0].revents != 0) {
@@ -515,30 +566,50 @@ static void run_hub(uint16_t port)
 
 static int usage(void)
 {
-    fputs("usage: host [--port N]\n", stderr);
+    fputs("usage: host [--port N [--send-buffer BYTES]]\n", stderr);
     return 2;
+}
+
+/* A number of decimal digits alone, at most `most`; -1 for anything else. */
+static long number(const char *word, long most)
+{
+    char *end;
+    long value;
+
+    if (word[0] < '0' || word[0] > '9') {
+        return -1;
+    }
+    errno = 0;
+    value = strtol(word, &end, 10);
+    return errno != 0 || *end != '\0' || value > most ? -1 : value;
 }
 
 int main(int argc, char **argv)
 {
-    char *end;
     long port;
+    long send_buffer = 0;
 
     /* Output to somebody who has gone is an error of that write, not the end of the program. */
     if (signal(SIGPIPE, SIG_IGN) == SIG_ERR) {
         fail("signal");
     }
+    if (!bujorelm_version_fits()) {
+        fputs("host: libdriver.a is of another version than bujorelm.h\n", stderr);
+        return EXIT_FAILURE;
+    }
     if (argc == 1) {
         return run_pipe();
     }
-    if (argc != 3 || strcmp(argv[1], "--port") != 0 || argv[2][0] < '0' || argv[2][0] > '9') {
+    if ((argc != 3 && argc != 5) || strcmp(argv[1], "--port") != 0) {
         return usage();
     }
-    errno = 0;
-    port = strtol(argv[2], &end, 10);
-    if (errno != 0 || *end != '\0' || port > 65535) {
+    port = number(argv[2], 65535);
+    if (argc == 5) {
+        send_buffer = strcmp(argv[3], "--send-buffer") == 0 ? number(argv[4], SEND_BUFFER_MAX) : -1;
+    }
+    if (port < 0 || send_buffer < 0) {
         return usage();
     }
-    run_hub((uint16_t)port);
+    run_hub((uint16_t)port, (int)send_buffer);
     return EXIT_FAILURE;
 }

@@ -1,6 +1,6 @@
 #!/bin/sh
 # Builds and runs all tests of the C side: the header in C and C++, the library through it (plain, with sanitizers, under valgrind), the
-# stack that a call takes, the example, docs/DRIVER.md, and the reference host.
+# stack that a call takes, the examples, docs/DRIVER.md, and the reference host.
 #
 # usage: host/c/run-tests.sh [ROOT]
 #
@@ -20,7 +20,7 @@ fail() {
 }
 
 [ -f "$library" ] || fail "$library is not there: run rt staticlib driver"
-for program in "${CC:=cc}" "${CXX:=c++}" python3 valgrind; do
+for program in "${CC:=cc}" "${CXX:=c++}" python3 valgrind nm; do
     command -v "$program" > /dev/null || fail "$program is not there"
 done
 mkdir -p "$out"
@@ -40,6 +40,13 @@ for standard in c99 c11 c17; do
     # shellcheck disable=SC2086
     echo '#include "bujorelm.h"' | $CC -std=$standard $warnings -I "$here/include" -x c -fsyntax-only -
 done
+# What is not the library's platform or layout does not compile, and the message says why.
+refuses() {
+    echo '#include "bujorelm.h"' | $CC -std=c99 "$1" -I "$here/include" -x c -fsyntax-only - 2>&1 | grep -q "$2" ||
+        fail "the header takes $1"
+}
+refuses -D_WIN32 "System V"
+refuses -fshort-enums kinds_have_4_bytes
 for standard in c++98 c++11 c++17; do
     # shellcheck disable=SC2086
     $CXX -std=$standard $warnings -I "$here/include" "$here/tests/header.cpp" "$library" -o "$out/header"
@@ -47,6 +54,8 @@ for standard in c++98 c++11 c++17; do
 done
 
 echo "host/c: the library"
+outside=$(nm -u "$library" | sed -n 's/^ *U //p' | sort -u | tr '\n' ' ')
+[ "$outside" = "memcpy memset " ] || fail "what the archive calls outside itself is not what the header says: $outside"
 compile library "-O2 -g" tests/library.c
 "$out/library"
 compile library-sanitized "$sanitizers" tests/library.c
@@ -65,12 +74,16 @@ for level in -O0 -O1 -O2 -O3 -Os; do
     "$out/stack" "$level"
 done
 
-echo "host/c: the example and docs/DRIVER.md"
+echo "host/c: the examples and docs/DRIVER.md"
 compile example "-O2" example/minimal.c
 compile example-sanitized "$sanitizers" example/minimal.c
+compile socketcan "-O2" example/socketcan.c
+compile socketcan-test "$sanitizers" tests/socketcan.c
+"$out/socketcan-test"
 compile host "-O2 -g" host.c
 compile host-sanitized "$sanitizers" host.c
 python3 "$here/tests/document_test.py" "$root/docs/DRIVER.md" "$root" "$out"
+python3 "$here/tests/assumptions_test.py" "$root"
 
 echo "host/c: the reference host"
 python3 "$here/tests/host_test.py" "$out/host"

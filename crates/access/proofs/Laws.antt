@@ -7,10 +7,12 @@ use mathlib.Core.List.{List, [], _∷_, _++_}
 use native.Mathlib.Numerals.{add-one}
 use native.Mathlib.Omega.{arith}
 use lib.Dec.{leb}
-use lib.ListN.{length, take, drop, getD, set, length-drop, take-append-drop}
-use lib.Seq.{drop-cons, take-suc-set, drop-set-lt, append-snoc}
+use lib.ListN.{length, take, drop, getD, set, length-append, length-take, length-drop, take-append-drop}
+use lib.Seq.{drop-cons, take-suc-set, drop-set-lt, append-snoc, length-take-le, take-at, drop-at, drop-drop}
 use borrow.Author.Tests.{leb-true, leb-false, le-leb, lt-leb}
+use Rattle.buffer.specs.Buffer.{putAt, placed}
 use Rattle.buffer.proofs.Choice.{cond-false, cond-elim, cond-not, and-left, and-right}
+use Rattle.buffer.proofs.Laws.{put-length, take-before, drop-behind}
 use Rattle.board.specs.Description.{findSpace, sizeOf, windowOf}
 use Rattle.house.specs.HouseNumbers.{descriptionHouse}
 use Rattle.house.specs.declared.HouseNumber.the-variants.{Good}
@@ -18,14 +20,14 @@ use Rattle.board.specs.declared.Space.{Space}
 use Rattle.board.specs.declared.Found.{Found}
 use Rattle.board.specs.declared.Found.the-variants.{Described, Empty, Unknown}
 use Rattle.house.proofs.Laws.{Fine, FoundFine, good-find}
-use Rattle.fields.specs.Commands.{pair, pairsOf}
+use Rattle.fields.specs.Commands.{Pair, pair, pairsOf}
 use Rattle.command.proofs.Laws.{pairs-length}
 use Rattle.fields.specs.declared.Form.{Form}
 use Rattle.reply.specs.Replies.{readReply, failedRead, failedWrite}
-use Rattle.reply.specs.Answers.{receivedOkReply, Agrees}
+use Rattle.reply.specs.Answers.{receivedOkReply, answerOf, Agrees}
 use Rattle.reply.specs.declared.Answer.{Answer}
-use Rattle.reply.specs.declared.Answer.the-variants.{Accepted}
-use Rattle.access.specs.Access.{inside, access, bytesRead, readResult, writeResult, memoryAfter, maskByte, masked, storeMasked, indexOf, WritesFit, Writes}
+use Rattle.reply.specs.declared.Answer.the-variants.{Written}
+use Rattle.access.specs.Access.{inside, access, bytesRead, readResult, writeResult, memoryAfter, storeBytes, maskByte, masked, storeMasked, indexOf, WritesFit, OnlyWithin, Changes, Writes}
 use Rattle.access.specs.declared.Access.{Access}
 use Rattle.access.specs.declared.Access.the-variants.{Fails, Reaches}
 
@@ -108,6 +110,54 @@ module _ (p l : List ℕ) (k : ℕ) where
   unfolding storeMasked
   masked-not h = rw (pairs-length p, lt-leb _ _ h)
 
+-- ---- the bytes that a write changes
+
+same-within : (index n : ℕ) (l : List ℕ) → OnlyWithin index n l l
+same-within index n l = record { size = refl; before = refl; behind = refl }
+
+pub bytes-within : (bytes memory : List ℕ) (index : ℕ) → OnlyWithin index (length bytes) memory (storeBytes bytes index memory)
+unfolding placed
+bytes-within bytes memory index =
+    cond-elim (λ (l : List ℕ). OnlyWithin index (length bytes) memory l) (leb (index + length bytes) (length memory))
+    {a = putAt index bytes memory} {b = memory}
+    (λ e.
+    let h = leb-true (index + length bytes) (length memory) e in
+    let k : index ≤ length memory = omega arith in
+    record {
+      size = put-length index bytes memory k h;
+      before = take-before index bytes memory k index (omega arith);
+      behind = drop-behind index bytes memory k (index + length bytes) (omega arith);
+    })
+    (λ _. same-within index (length bytes) memory)
+
+masked-length : (pairs : List Pair) (l : List ℕ) → length (masked pairs l) ≡ length l
+unfolding masked
+masked-length [] l = refl
+masked-length (p ∷ more) [] = refl
+masked-length (p ∷ more) (old ∷ l) = ap suc (masked-length more l)
+
+masked-behind : (pairs : List Pair) (l : List ℕ) → drop (length pairs) (masked pairs l) ≡ drop (length pairs) l
+unfolding masked
+masked-behind [] l = refl
+masked-behind (p ∷ more) [] = refl
+masked-behind (p ∷ more) (old ∷ l) = masked-behind more l
+
+pub pairs-within : (pairs : List Pair) (memory : List ℕ) (index : ℕ) → OnlyWithin index (length pairs) memory (storeMasked pairs index memory)
+unfolding storeMasked
+pairs-within pairs memory index =
+    cond-elim (λ (l : List ℕ). OnlyWithin index (length pairs) memory l) (leb (index + length pairs) (length memory))
+    {a = take index memory ++ masked pairs (drop index memory)} {b = memory}
+    (λ e.
+    let h = leb-true (index + length pairs) (length memory) e in
+    let k : length (take index memory) ≡ index = length-take-le index memory (omega arith) in
+    let m = masked pairs (drop index memory) in
+    record {
+      size = rw (length-append (take index memory) m, masked-length pairs (drop index memory), length-take, length-drop) (omega arith);
+      before = take-at (take index memory) m index k;
+      behind = rw (← drop-drop (length pairs) index (take index memory ++ m), drop-at (take index memory) m index k, masked-behind pairs (drop index memory)) (drop-drop (length pairs) index memory);
+    })
+    (λ _. same-within index (length pairs) memory)
+
 -- what was found, looked at, and told apart
 pub found-access : (writes : Bool) (address n : ℕ) {found known : Found} {a b : Access} → found ≡ known → a ≡ access writes found address n → a ≡ b →
     access writes known address n ≡ b
@@ -129,16 +179,23 @@ module _ (flash memory : List ℕ) (form : Form) (space address count : ℕ) {r 
       let q : part ≡ bytesRead flash memory s address count = t ∙ ap (λ (x : List ℕ). take count (drop (address - s .lowest) x)) w in
       rw (e, ← q) p
 
-module _ (store : ℕ → List ℕ → List ℕ) (form : Form) (space address : ℕ) (memory : List ℕ) where
+module _ (store : ℕ → List ℕ → List ℕ) (form : Form) (space address n : ℕ) (memory : List ℕ) where
   pub write-fails : {a : Access} {code : ℕ} → a ≡ Fails code → {r : Answer} {before after : List ℕ} →
-      Agrees (receivedOkReply (failedWrite form space address code)) r before after → Writes store form space address a r before after memory memory
+      Agrees (receivedOkReply (failedWrite form space address code)) r before after → Writes store form space address n a r before after memory memory
   unfolding writeResult memoryAfter
-  write-fails e p = record { answer = rw e p; memory = rw e }
+  write-fails e p = record { answer = rw e p; memory = rw e; changes = rw (p .answer) refl }
 
-  pub write-reaches : {a : Access} {s : Space} → a ≡ Reaches s → {buffer stored : List ℕ} → stored ≡ store (indexOf s address) memory →
-      Writes store form space address a Accepted buffer buffer memory stored
-  unfolding writeResult memoryAfter
-  write-reaches e q = record { answer = rw e (record { answer = refl; buffer = refl }); memory = rw e q }
+  module _ (within : (index : ℕ) → OnlyWithin index n memory (store index memory)) where
+    pub write-reaches : {a : Access} {s : Space} → a ≡ Reaches s → {buffer stored : List ℕ} → stored ≡ store (indexOf s address) memory →
+        Writes store form space address n a (Written (indexOf s address) n) buffer buffer memory stored
+    unfolding writeResult memoryAfter
+    write-reaches {a} {s} e q = record { answer = rw e (record { answer = refl; buffer = refl }); memory = rw e q; changes = rw q (within (indexOf s address)) }
+
+    -- the same of the definitions alone
+    pub write-changes : (a : Access) → Changes (answerOf (writeResult form space address n a)) memory (memoryAfter store memory address a)
+    unfolding writeResult memoryAfter
+    write-changes (Fails code) = refl
+    write-changes (Reaches s) = within (indexOf s address)
 
 -- ---- the end of a space
 

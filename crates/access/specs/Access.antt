@@ -16,8 +16,9 @@ use Rattle.board.specs.declared.Found.the-variants.{Described, Empty, Unknown}
 use Rattle.fields.specs.Commands.{Pair}
 use Rattle.fields.specs.declared.Form.{Form}
 use Rattle.reply.specs.Replies.{readReply, failedRead, failedWrite}
-use Rattle.reply.specs.Answers.{Result, receivedOk, receivedOkReply, Agrees}
+use Rattle.reply.specs.Answers.{Result, written, receivedOkReply, Agrees}
 use Rattle.reply.specs.declared.Answer.{Answer}
+use Rattle.reply.specs.declared.Answer.the-variants.{Rejected, Written, UpdateComplete, Replied}
 use Rattle.access.specs.declared.Access.{Access}
 use Rattle.access.specs.declared.Access.the-variants.{Fails, Reaches}
 
@@ -47,14 +48,14 @@ readResult flash memory form space address count (Reaches s) = receivedOkReply (
 
 -- ---- writes
 
--- "Success is Received OK 0x00 and nothing more"
-unfoldable pub writeResult : Form → ℕ → ℕ → Access → Result
-writeResult form space address (Fails code) = receivedOkReply (failedWrite form space address code)
-writeResult form space address (Reaches s) = receivedOk
-
 -- Where a byte of a space stands in its store.
 abbrev pub indexOf : Space → ℕ → ℕ
 indexOf s address = s .offset + (address - s .lowest)
+
+-- A write of n bytes: "Success is Received OK 0x00 and nothing more"
+unfoldable pub writeResult : Form → ℕ → ℕ → ℕ → Access → Result
+writeResult form space address n (Fails code) = receivedOkReply (failedWrite form space address code)
+writeResult form space address n (Reaches s) = written (indexOf s address) n
 
 -- A write that fails "changes nothing". What is stored from an index of memory on is given by `store`.
 unfoldable pub memoryAfter : (ℕ → List ℕ → List ℕ) → List ℕ → ℕ → Access → List ℕ
@@ -86,9 +87,26 @@ WritesFit =
     (alias : ℕ) (spaces : List Space) (flash memory number address n : ℕ) (s : Space) → descriptionHouse alias spaces flash memory ≡ Good
     → access true (findSpace spaces number) address n ≡ Reaches s → indexOf s address + n ≤ memory
 
+-- ---- what an answer says of memory
+
+-- The bytes `new`, which were `old`, differ from them at most in n bytes from an index on.
+pub record OnlyWithin (index n : ℕ) (old new : List ℕ) : Type 0 where
+  pub size : length new ≡ length old
+  pub before : take index new ≡ take index old
+  pub behind : drop (index + n) new ≡ drop (index + n) old
+
+-- Memory, which was `old` and is `new`, by the answer: a write changes bytes of its range alone, and nothing else changes memory.
+abbrev pub Changes : Answer → List ℕ → List ℕ → Type 0
+Changes (Rejected code) old new = new ≡ old
+Changes (Written index n) old new = OnlyWithin index n old new
+Changes UpdateComplete old new = new ≡ old
+Changes (Replied n) old new = new ≡ old
+
 -- ---- what the code gives back
 
--- The answer r, the buffer `after` and the memory `stored` are those of a write that reached or failed, over the buffer `before` and the memory `old`.
-pub record Writes (store : ℕ → List ℕ → List ℕ) (form : Form) (space address : ℕ) (reached : Access) (r : Answer) (before after old stored : List ℕ) : Type 0 where
-  pub answer : Agrees (writeResult form space address reached) r before after
+-- The answer r, the buffer `after` and the memory `stored` are those of a write of n bytes that reached or failed, over the buffer `before`
+-- and the memory `old`.
+pub record Writes (store : ℕ → List ℕ → List ℕ) (form : Form) (space address n : ℕ) (reached : Access) (r : Answer) (before after old stored : List ℕ) : Type 0 where
+  pub answer : Agrees (writeResult form space address n reached) r before after
   pub memory : stored ≡ memoryAfter store old address reached
+  pub changes : Changes r old stored

@@ -107,7 +107,7 @@ pub fn write(
     bytes: &[u8],
     out: &mut [u8],
 ) -> Answer
-    ensures writes { λ r. ⌜ Writes (storeBytes (now (bytes .entry))) form number address (access true (findSpace (spacesIn (now (spaces .entry))) number) address (length (now (bytes .entry)))) r (now (out .entry)) (now (out .exit)) (now (memory .entry)) (now (memory .exit)) ⌝ }
+    ensures writes { λ r. ⌜ Writes (storeBytes (now (bytes .entry))) form number address (length (now (bytes .entry))) (access true (findSpace (spacesIn (now (spaces .entry))) number) address (length (now (bytes .entry)))) r (now (out .entry)) (now (out .exit)) (now (memory .entry)) (now (memory .exit)) ⌝ }
     ensures fit { λ _. ⌜ WritesFit ⌝ }
 {
     let access = reach(
@@ -123,7 +123,7 @@ pub fn write(
         Access::Reaches(space) => {
             let index = space.offset as usize + (address - space.lowest) as usize;
             buffer::put(memory, index, bytes);
-            return Answer::Accepted;
+            return Answer::Written(index, bytes.len());
         }
     }
 }
@@ -165,7 +165,7 @@ pub fn write_masked(
     pairs: &[u8],
     out: &mut [u8],
 ) -> Answer
-    ensures { λ r. ⌜ Writes (storeMasked (pairsOf (now (pairs .entry)))) form number address (access true (findSpace (spacesIn (now (spaces .entry))) number) address (length (pairsOf (now (pairs .entry))))) r (now (out .entry)) (now (out .exit)) (now (memory .entry)) (now (memory .exit)) ⌝ }
+    ensures { λ r. ⌜ Writes (storeMasked (pairsOf (now (pairs .entry)))) form number address (length (pairsOf (now (pairs .entry)))) (access true (findSpace (spacesIn (now (spaces .entry))) number) address (length (pairsOf (now (pairs .entry))))) r (now (out .entry)) (now (out .exit)) (now (memory .entry)) (now (memory .exit)) ⌝ }
 {
     let access = reach(
         true,
@@ -180,7 +180,7 @@ pub fn write_masked(
         Access::Reaches(space) => {
             let index = space.offset as usize + (address - space.lowest) as usize;
             put_masked(memory, index, pairs);
-            return Answer::Accepted;
+            return Answer::Written(index, pairs.len() / 2);
         }
     }
 }

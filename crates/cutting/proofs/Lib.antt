@@ -1,3 +1,4 @@
 pub mod FrameLaws
 pub mod CutLaws
 pub mod RoundTrip
+pub mod ThenLaws

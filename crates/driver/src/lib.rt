@@ -1,38 +1,40 @@
 // The edge to C: what a CAN driver calls. Everything is lent: a slice is a pointer and then a length, an array of a fixed length is a
-// pointer. Every answer is numbers.
+// pointer. What comes of a call is numbers in two registers.
 use frame::Frame;
 use gridconnect::Parsed;
-
-mod flat;
-
+use lines::Carry;
+use lines::Next;
+use result::CallResult;
 ghost use mathlib.Core.Path.{_≡_};
+ghost use mathlib.Core.List.{[]};
 ghost use lib.ListN.{length};
 ghost use Rattle.buffer.specs.Buffer.{over};
-ghost use Rattle.frame.specs.Frame.{canFrame};
+ghost use Rattle.frame.specs.Frame.{canFrame, sourceOf};
 ghost use Rattle.frame.specs.Layout.{framesBytes};
 ghost use Rattle.board.specs.Table.{spacesIn};
 ghost use Rattle.reception.specs.PlaceBytes.{stateIn};
 ghost use Rattle.cutting.specs.Cutting.{cutFrames};
 ghost use Rattle.cutting.specs.Transport.{receivedOk, rejectedWith};
 ghost use Rattle.handler.specs.Performing.{fixed, contents};
-ghost use Rattle.handler.specs.Datagram.{datagramCall};
+ghost use Rattle.datagram.specs.Datagram.{datagramCall};
 ghost use Rattle.node.specs.Frames.{frameCall, Keeps};
+ghost use Rattle.sending.specs.Sending.{sentFor};
 ghost use Rattle.gridconnect.specs.Line.{parseOf, frameText, Printed};
-ghost use Rattle.driver.specs.Numbers.{DatagramReturns, FrameReturns};
+ghost use Rattle.lines.specs.Input.{carryOf, line, nextOf, lastOf};
+ghost use Rattle.driver.specs.Returns.{DatagramReturns, FrameReturns};
 
-// What comes of a call, as numbers. The kinds: 0 refused by the house number `house`, 1 ignored, 2 joined and not answered, 3 refused by
-// the transport with `code`, 4 rejected with `code`, 5 Received OK with `flags` 0x00, 6 Received OK with `flags` 0x80 and a reply of
-// `reply_len` bytes. A number that its kind does not name is 0.
-#[repr(C)]
-pub struct Numbers {
-    pub kind: u8,
-    pub house: u8,
-    pub flags: u8,
-    pub code: u16,
-    pub reply_len: usize,
+// The version of this edge, major in the upper 16 bits and minor in the lower: a header of the same major and of no greater minor fits.
+const VERSION: u32 = 0x00020000;
+
+#[no_mangle]
+pub extern "C" fn bujorelm_version() -> u32
+    ensures { λ r. ⌜ r ≡ 0x00020000 ⌝ }
+{
+    VERSION
 }
 
-// Handles a frame from the bus. The spaces are a table of 16 bytes each, the places 8 bytes each.
+// Handles a frame from the bus, and makes the frames that the board sends for it. The spaces are a table of 16 bytes each, the places 8 bytes
+// each, the frames 16 bytes each.
 #[no_mangle]
 pub extern "C" fn bujorelm_handle_frame(
     alias: u16,
@@ -46,11 +48,13 @@ pub extern "C" fn bujorelm_handle_frame(
     header: u32,
     payload: &[u8],
     reply: &mut [u8],
-) -> Numbers
-    ensures returns { λ r. ⌜ FrameReturns (frameCall (fixed alias «write_lengths» (spacesIn (now (spaces .entry))) (now (flash .entry))) (now (reply .entry)) (stateIn (now (places .entry)) (now (pool .entry))) (contents (now (memory .entry)) (now (lock .entry))) (canFrame header (now (payload .entry)))) r (now (reply .entry)) (now (reply .exit)) (now (memory .exit)) (now (lock .exit)) ⌝ }
+    frames: &mut [u8; 160],
+) -> CallResult
+    ensures returns { λ r. ⌜ FrameReturns (frameCall (fixed alias «write_lengths» (spacesIn (now (spaces .entry))) (now (flash .entry))) (now (reply .entry)) (stateIn (now (places .entry)) (now (pool .entry))) (contents (now (memory .entry)) (now (lock .entry))) (canFrame header (now (payload .entry)))) (sentFor alias (sourceOf header) ((frameCall (fixed alias «write_lengths» (spacesIn (now (spaces .entry))) (now (flash .entry))) (now (reply .entry)) (stateIn (now (places .entry)) (now (pool .entry))) (contents (now (memory .entry)) (now (lock .entry))) (canFrame header (now (payload .entry)))) .answer)) r (now (reply .entry)) (now (reply .exit)) (now (memory .entry)) (now (memory .exit)) (now (lock .exit)) ⌝ }
     ensures keeps { λ _. ⌜ Keeps (frameCall (fixed alias «write_lengths» (spacesIn (now (spaces .entry))) (now (flash .entry))) (now (reply .entry)) (stateIn (now (places .entry)) (now (pool .entry))) (contents (now (memory .entry)) (now (lock .entry))) (canFrame header (now (payload .entry)))) (now (places .entry)) (now (places .exit)) (now (pool .exit)) ⌝ }
+    ensures sent { λ _. ⌜ now (frames .exit) ≡ over (framesBytes (sentFor alias (sourceOf header) ((frameCall (fixed alias «write_lengths» (spacesIn (now (spaces .entry))) (now (flash .entry))) (now (reply .entry)) (stateIn (now (places .entry)) (now (pool .entry))) (contents (now (memory .entry)) (now (lock .entry))) (canFrame header (now (payload .entry)))) .answer))) (now (frames .entry)) ⌝ }
 {
-    let answer = node::handle_frame(
+    let sent = sending::answer_frame(
         alias,
         write_lengths,
         spaces,
@@ -62,8 +66,10 @@ pub extern "C" fn bujorelm_handle_frame(
         header,
         payload,
         reply,
+        frames,
     );
-    flat::of_frame(answer)
+    let answer = sent.answer;
+    result::of_frame(answer, sent.count)
 }
 
 // Handles a datagram that is handed over whole.
@@ -77,10 +83,10 @@ pub extern "C" fn bujorelm_handle_datagram(
     lock: &mut [u8; 6],
     datagram: &[u8],
     reply: &mut [u8],
-) -> Numbers
-    ensures { λ r. ⌜ DatagramReturns (datagramCall (fixed alias «write_lengths» (spacesIn (now (spaces .entry))) (now (flash .entry))) (contents (now (memory .entry)) (now (lock .entry))) (now (datagram .entry)) (now (reply .entry))) r (now (reply .exit)) (now (memory .exit)) (now (lock .exit)) ⌝ }
+) -> CallResult
+    ensures { λ r. ⌜ DatagramReturns (datagramCall (fixed alias «write_lengths» (spacesIn (now (spaces .entry))) (now (flash .entry))) (contents (now (memory .entry)) (now (lock .entry))) (now (datagram .entry)) (now (reply .entry))) r (now (reply .exit)) (now (memory .entry)) (now (memory .exit)) (now (lock .exit)) ⌝ }
 {
-    let handled = handler::handle_datagram(
+    let handled = datagram::handle_datagram(
         alias,
         write_lengths,
         spaces,
@@ -90,21 +96,21 @@ pub extern "C" fn bujorelm_handle_datagram(
         datagram,
         reply,
     );
-    flat::of_handled(handled)
+    result::of_handled(handled)
 }
 
-// Cuts a reply into frames, 16 bytes each, and gives their number; 0 where B9 refuses it.
+// Cuts a reply of the board into frames to a tool, and gives their number; 0 where B9 refuses it.
 #[no_mangle]
 pub extern "C" fn bujorelm_cut(
     datagram: &[u8],
-    destination: u16,
-    source: u16,
-    frames: &mut [u8; 144],
+    board: u16,
+    tool: u16,
+    frames: &mut [u8; 160],
 ) -> usize
-    ensures count { λ r. ⌜ r ≡ length (cutFrames (now (datagram .entry)) destination source) ⌝ }
-    ensures bytes { λ _. ⌜ now (frames .exit) ≡ over (framesBytes (cutFrames (now (datagram .entry)) destination source)) (now (frames .entry)) ⌝ }
+    ensures count { λ r. ⌜ r ≡ length (cutFrames (now (datagram .entry)) tool board) ⌝ }
+    ensures bytes { λ _. ⌜ now (frames .exit) ≡ over (framesBytes (cutFrames (now (datagram .entry)) tool board)) (now (frames .entry)) ⌝ }
 {
-    cutting::cut_datagram(datagram, destination, source, frames)
+    cutting::cut_datagram(datagram, tool, board, frames)
 }
 
 // The frame of Received OK with its flags, and the number of frames made.
@@ -113,21 +119,26 @@ pub extern "C" fn bujorelm_received_ok(
     board: u16,
     tool: u16,
     flags: u8,
-    frame: &mut [u8; 16],
+    frames: &mut [u8; 160],
 ) -> usize
     ensures count { λ r. ⌜ r ≡ length (receivedOk board tool flags) ⌝ }
-    ensures bytes { λ _. ⌜ now (frame .exit) ≡ over (framesBytes (receivedOk board tool flags)) (now (frame .entry)) ⌝ }
+    ensures bytes { λ _. ⌜ now (frames .exit) ≡ over (framesBytes (receivedOk board tool flags)) (now (frames .entry)) ⌝ }
 {
-    cutting::received_ok(board, tool, flags, frame)
+    cutting::received_ok(board, tool, flags, frames)
 }
 
 // The frame of Rejected with its code, and the number of frames made.
 #[no_mangle]
-pub extern "C" fn bujorelm_rejected(board: u16, tool: u16, code: u16, frame: &mut [u8; 16]) -> usize
+pub extern "C" fn bujorelm_rejected(
+    board: u16,
+    tool: u16,
+    code: u16,
+    frames: &mut [u8; 160],
+) -> usize
     ensures count { λ r. ⌜ r ≡ length (rejectedWith board tool code) ⌝ }
-    ensures bytes { λ _. ⌜ now (frame .exit) ≡ over (framesBytes (rejectedWith board tool code)) (now (frame .entry)) ⌝ }
+    ensures bytes { λ _. ⌜ now (frames .exit) ≡ over (framesBytes (rejectedWith board tool code)) (now (frames .entry)) ⌝ }
 {
-    cutting::rejected(board, tool, code, frame)
+    cutting::rejected(board, tool, code, frames)
 }
 
 // Reads a GridConnect line without its newline.
@@ -144,4 +155,44 @@ pub extern "C" fn bujorelm_print_frame(frame: Frame, out: &mut [u8], at: usize) 
     ensures { λ r. ⌜ Printed at (frameText frame) (now (out .entry)) r (now (out .exit)) ⌝ }
 {
     gridconnect::print_frame(frame, out, at)
+}
+
+// A step that completes a line, made part by part: one that is copied whole, behind what made its parts, waits for them in memory.
+fn completed(parsed: Parsed, at: usize) -> Next
+    ensures { λ r. ⌜ r ≡ line parsed (carryOf []) at ⌝ }
+{
+    let bytes = parsed.frame.bytes;
+    Next {
+        complete: true,
+        parsed: Parsed {
+            good: parsed.good,
+            frame: Frame {
+                header: parsed.frame.header,
+                len: parsed.frame.len,
+                bytes,
+            },
+        },
+        carry: lines::start(),
+        at,
+    }
+}
+
+// The next line of an input that comes in chunks, from an index of the chunk on; the carry is the beginning of a line that an earlier chunk left.
+#[no_mangle]
+pub extern "C" fn bujorelm_next_line(chunk: &[u8], from: usize, carry: Carry) -> Next
+    ensures { λ r. ⌜ r ≡ nextOf carry (now (chunk .entry)) from ⌝ }
+{
+    let next = lines::next_line(chunk, from, carry);
+    if next.complete {
+        return completed(next.parsed, next.at);
+    }
+    next
+}
+
+// The end of such an input.
+#[no_mangle]
+pub extern "C" fn bujorelm_last_line(carry: Carry) -> Next
+    ensures { λ r. ⌜ r ≡ lastOf carry ⌝ }
+{
+    lines::last_line(carry)
 }

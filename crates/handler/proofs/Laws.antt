@@ -1,40 +1,31 @@
--- No house number of a whole datagram, and the lengths of the replies.
+-- The lengths of the replies, and the bytes that an outcome changes.
 -- Assumes nothing.
 use Prim.Native.Nat.{ℕ, _+_, _≤_}
 use mathlib.Core.Path.{_≡_, refl, sym, ap, _∙_}
-use mathlib.Core.Bool.{cond}
+use mathlib.Core.Bool.{true, false, cond}
 use mathlib.Core.List.{List, [], _∷_, _++_}
 use native.Mathlib.Omega.{arith}
-use lib.Dec.{ltb, eqb}
+use lib.Dec.{eqb}
 use lib.ListN.{length, take, drop, length-append, length-take}
-use borrow.Author.Tests.{ltb-false, le-leb}
+use borrow.Author.Tests.{le-leb}
 use Rattle.buffer.specs.BigEndian.{bytesOf}
-use Rattle.buffer.proofs.Choice.{cond-not, cond-elim}
+use Rattle.buffer.proofs.Choice.{cond-elim}
 use Rattle.house.specs.HouseNumbers.{descriptionHouse}
 use Rattle.house.specs.declared.HouseNumber.the-variants.{Good}
 use Rattle.board.specs.declared.Found.{Found}
 use Rattle.board.specs.declared.Found.the-variants.{Described, Empty, Unknown}
-use Rattle.house.proofs.Laws.{bad, orElse-good}
-use Rattle.fields.specs.Commands.{spaceByte}
+use Rattle.fields.specs.Commands.{Request, read, write, writeMasked, options, information, reserve, updateComplete, spaceByte}
 use Rattle.fields.specs.declared.Form.{Form}
 use Rattle.fields.specs.declared.Form.the-variants.{NoSpace, Byte6, Fd, Fe, Ff}
+use Rattle.command.specs.Decoding.{Reading, rejected, request, decode}
 use Rattle.reply.specs.Replies.{replyHead}
 use Rattle.inquiry.specs.Inquiry.{informationReply, accessFlag}
-use Rattle.reply.specs.Answers.{Result, datagramRejected, receivedOk, receivedOkReply, fitted}
-use Rattle.access.specs.Access.{readResult, writeResult}
+use Rattle.reply.specs.Answers.{Result, datagramRejected, written, updateCompleted, receivedOkReply, fitted}
+use Rattle.access.specs.Access.{access, readResult, writeResult, storeBytes, storeMasked, OnlyWithin}
 use Rattle.access.specs.declared.Access.{Access}
 use Rattle.access.specs.declared.Access.the-variants.{Fails, Reaches}
-use Rattle.handler.specs.Performing.{Fixed, Short}
-use Rattle.handler.specs.Datagram.{bufferHouse, datagramHouse}
-
--- ---- no house number of a whole datagram
-
-module _ (x : Fixed) (memory buffer : List ℕ) (g : datagramHouse x memory buffer ≡ Good) where
-  pub house-buffer : 72 ≤ length buffer
-  unfolding datagramHouse
-  house-buffer =
-      let e = orElse-good (descriptionHouse (x .alias) (x .spaces) (length (x .flash)) (length memory)) (bufferHouse buffer) g .1 in
-      ltb-false (length buffer) 72 (cond-not (ltb (length buffer) 72) e (bad refl) .0)
+use Rattle.access.proofs.Laws.{bytes-within, pairs-within, write-changes, writes-fit}
+use Rattle.handler.specs.Performing.{Fixed, Contents, foundIn, outcome, writeOutcome, perform, answerReading, handle, Short, Inside, Bounds, HandleBounds}
 
 -- ---- the lengths of the replies
 
@@ -58,10 +49,10 @@ unfolding readResult
 read-short flash memory form space address count (Fails code) h = behind-head 0x58 form space address _ (omega arith)
 read-short flash memory form space address count (Reaches s) h = behind-head 0x50 form space address _ (rw length-take (omega arith))
 
-pub write-short : (form : Form) (space address : ℕ) (a : Access) → Short (writeResult form space address a)
+pub write-short : (form : Form) (space address n : ℕ) (a : Access) → n ≤ 64 → Short (writeResult form space address n a)
 unfolding writeResult
-write-short form space address (Fails code) = behind-head 0x18 form space address _ (omega arith)
-write-short form space address (Reaches s) = tt
+write-short form space address n (Fails code) h = behind-head 0x18 form space address _ (omega arith)
+write-short form space address n (Reaches s) h = h
 
 pub information-short : (n : ℕ) (found : Found) → length (informationReply n found) ≤ 72
 unfolding informationReply
@@ -75,5 +66,48 @@ information-short n Unknown = omega arith
 -- a buffer of 72 bytes takes every such reply whole
 pub whole : (r : Result) (buffer : List ℕ) → Short r → 72 ≤ length buffer → fitted r buffer ≡ r
 whole (datagramRejected code) buffer s h = refl
-whole receivedOk buffer s h = refl
+whole (written index n) buffer s h = refl
+whole updateCompleted buffer s h = refl
 whole (receivedOkReply reply) buffer s h = rw (le-leb (length reply) (length buffer) (omega (arith, s, h)))
+
+-- ---- the bytes that an outcome changes
+
+module _ (x : Fixed) (c : Contents) where
+  read-bounds : (form : Form) (space address count : ℕ) (a : Access) →
+      Bounds x c (outcome (readResult (x .flash) (c .memory) form space address count a) c)
+  unfolding readResult
+  read-bounds form space address count (Fails code) = record { changes = refl; inside = λ _. tt }
+  read-bounds form space address count (Reaches s) = record { changes = refl; inside = λ _. tt }
+
+  module _ (form : Form) (space address n : ℕ) where
+    write-inside : (a : Access) → access true (foundIn x space) address n ≡ a →
+        descriptionHouse (x .alias) (x .spaces) (length (x .flash)) (length (c .memory)) ≡ Good →
+        Inside (length (c .memory)) (writeResult form space address n a)
+    unfolding writeResult
+    write-inside (Fails code) e g = tt
+    write-inside (Reaches s) e g = writes-fit (x .alias) (x .spaces) (length (x .flash)) (length (c .memory)) space address n s g e
+
+    write-bounds : (store : ℕ → List ℕ → List ℕ) → ((index : ℕ) → OnlyWithin index n (c .memory) (store index (c .memory))) →
+        Bounds x c (writeOutcome store x c form space address n)
+    write-bounds store w =
+        let a = access true (foundIn x space) address n in
+        record { changes = write-changes store form space address n (c .memory) w a; inside = write-inside a refl }
+
+  perform-bounds : (form : Form) (q : Request) → Bounds x c (perform x c form q)
+  unfolding perform
+  perform-bounds form (read space address count) = read-bounds form space address count (access false (foundIn x space) address 1)
+  perform-bounds form (write space address bytes) = write-bounds form space address (length bytes) (storeBytes bytes) (bytes-within bytes (c .memory))
+  perform-bounds form (writeMasked space address pairs) =
+      write-bounds form space address (length pairs) (storeMasked pairs) (pairs-within pairs (c .memory))
+  perform-bounds form options = record { changes = refl; inside = λ _. tt }
+  perform-bounds form (information space) = record { changes = refl; inside = λ _. tt }
+  perform-bounds form (reserve id) = record { changes = refl; inside = λ _. tt }
+  perform-bounds form updateComplete = record { changes = refl; inside = λ _. tt }
+
+  reading-bounds : (r : Reading) → Bounds x c (answerReading x c r)
+  reading-bounds (rejected code) = record { changes = refl; inside = λ _. tt }
+  reading-bounds (request form q) = perform-bounds form q
+
+pub handle-bounds : HandleBounds
+unfolding handle
+handle-bounds x c d = reading-bounds x c (decode d)

@@ -1,5 +1,5 @@
 -- What a request does, and a datagram handled whole.
-use Prim.Native.Nat.{ℕ, _≤_}
+use Prim.Native.Nat.{ℕ, _+_, _≤_}
 use mathlib.Core.Path.{_≡_}
 use mathlib.Core.Bool.{true, false}
 use mathlib.Core.List.{List}
@@ -7,15 +7,17 @@ use lib.ListN.{length}
 use Rattle.board.specs.Description.{findSpace}
 use Rattle.board.specs.declared.Space.{Space}
 use Rattle.board.specs.declared.Found.{Found}
+use Rattle.house.specs.HouseNumbers.{descriptionHouse}
+use Rattle.house.specs.declared.HouseNumber.the-variants.{Good}
 use Rattle.fields.specs.Commands.{Request, read, write, writeMasked, options, information, reserve, updateComplete}
 use Rattle.fields.specs.declared.Form.{Form}
 use Rattle.command.specs.Decoding.{Reading, rejected, request, decode}
 use Rattle.lock.specs.Lock.{testAndSet}
 use Rattle.reply.specs.Replies.{lockReply}
 use Rattle.inquiry.specs.Inquiry.{optionsReply, informationReply}
-use Rattle.reply.specs.Answers.{Result, datagramRejected, receivedOk, receivedOkReply, Agrees}
+use Rattle.reply.specs.Answers.{Result, datagramRejected, written, updateCompleted, receivedOkReply, answerOf, Agrees}
 use Rattle.reply.specs.declared.Answer.{Answer}
-use Rattle.access.specs.Access.{access, readResult, writeResult, memoryAfter, storeBytes, storeMasked}
+use Rattle.access.specs.Access.{access, readResult, writeResult, memoryAfter, storeBytes, storeMasked, Changes}
 
 -- What stays the same over a session: the description, "the board's alias, one Write Lengths byte sent as given, and 0 to 16 spaces in
 -- order", and flash.
@@ -52,7 +54,7 @@ foundIn x space = findSpace (x .spaces) space
 abbrev pub writeOutcome : (ℕ → List ℕ → List ℕ) → Fixed → Contents → Form → ℕ → ℕ → ℕ → Outcome
 writeOutcome store x c form space address n =
     let reached = access true (foundIn x space) address n in
-    outcome (writeResult form space address reached) (contents (memoryAfter store (c .memory) address reached) (c .lock))
+    outcome (writeResult form space address n reached) (contents (memoryAfter store (c .memory) address reached) (c .lock))
 
 -- "0x88": "Reply 20 8A and the lock memory afterwards."
 abbrev pub lockOutcome : Contents → List ℕ → Outcome
@@ -66,7 +68,7 @@ perform x c form (writeMasked space address pairs) = writeOutcome (storeMasked p
 perform x c form options = outcome (receivedOkReply (optionsReply (x .writeLengths) (x .spaces))) c
 perform x c form (information space) = outcome (receivedOkReply (informationReply space (foundIn x space))) c
 perform x c form (reserve id) = lockOutcome c (testAndSet (c .lock) id)
-perform x c form updateComplete = outcome receivedOk c
+perform x c form updateComplete = outcome updateCompleted c
 
 -- A datagram handled whole. A rejected one leaves everything as it was.
 abbrev pub answerReading : Fixed → Contents → Reading → Outcome
@@ -76,12 +78,32 @@ answerReading x c (request form q) = perform x c form q
 unfoldable pub handle : Fixed → Contents → List ℕ → Outcome
 handle x c d = answerReading x c (decode d)
 
+-- ---- the bytes that an outcome changes
+
+-- What is written lies in a memory of m bytes.
+abbrev pub Inside : ℕ → Result → Type 0
+Inside m (datagramRejected code) = Unit {0}
+Inside m (written index n) = index + n ≤ m
+Inside m updateCompleted = Unit {0}
+Inside m (receivedOkReply reply) = Unit {0}
+
+-- Memory differs afterwards at most in the bytes that the answer names, and where no house number refuses the description with flash and
+-- memory these are bytes of memory.
+pub record Bounds (x : Fixed) (c : Contents) (o : Outcome) : Type 0 where
+  pub changes : Changes (answerOf (o .result)) (c .memory) (o .contents .memory)
+  pub inside : descriptionHouse (x .alias) (x .spaces) (length (x .flash)) (length (c .memory)) ≡ Good → Inside (length (c .memory)) (o .result)
+
+-- of every datagram
+abbrev pub HandleBounds : Type 0
+HandleBounds = (x : Fixed) (c : Contents) (d : List ℕ) → Bounds x c (handle x c d)
+
 -- ---- what the code gives back
 
--- "No reply is over 72 bytes."
+-- "No reply is over 72 bytes", and a write has "1–64 data bytes".
 abbrev pub Short : Result → Type 0
 Short (datagramRejected code) = Unit {0}
-Short receivedOk = Unit {0}
+Short (written index n) = n ≤ 64
+Short updateCompleted = Unit {0}
 Short (receivedOkReply reply) = length reply ≤ 72
 
 -- The answer r, the buffer `after`, memory and lock are what the outcome says, over the buffer `before`.

@@ -1,20 +1,11 @@
 // A datagram handled whole: decoded, and what it asks for performed.
 use command::Decoded;
-use house::HouseNumber;
 use reply::Answer;
 
 mod perform;
 
-ghost use mathlib.Core.Path.{_≡_};
 ghost use Rattle.board.specs.Table.{spacesIn};
-ghost use Rattle.handler.specs.Performing.{fixed, contents, handle, Performs};
-ghost use Rattle.handler.specs.Datagram.{datagramHouse, datagramCall, Ends};
-
-// What comes of a call: a house number, or an answer to send.
-pub enum Handled {
-    Refused(HouseNumber),
-    Answered(Answer),
-}
+ghost use Rattle.handler.specs.Performing.{fixed, contents, handle, Performs, HandleBounds};
 
 // Handles a datagram; the house numbers are the caller's to test. A reply that has no room in the buffer is not written.
 pub fn handle(
@@ -27,7 +18,8 @@ pub fn handle(
     datagram: &[u8],
     out: &mut [u8],
 ) -> Answer
-    ensures { λ r. ⌜ Performs (handle (fixed alias «write_lengths» (spacesIn (now (spaces .entry))) (now (flash .entry))) (contents (now (memory .entry)) (now (lock .entry))) (now (datagram .entry))) r (now (out .entry)) (now (out .exit)) (now (memory .exit)) (now (lock .exit)) ⌝ }
+    ensures performs { λ r. ⌜ Performs (handle (fixed alias «write_lengths» (spacesIn (now (spaces .entry))) (now (flash .entry))) (contents (now (memory .entry)) (now (lock .entry))) (now (datagram .entry))) r (now (out .entry)) (now (out .exit)) (now (memory .exit)) (now (lock .exit)) ⌝ }
+    ensures bounds { λ _. ⌜ HandleBounds ⌝ }
 {
     let decoded = command::decode(datagram);
     match decoded {
@@ -49,55 +41,4 @@ pub fn handle(
             );
         }
     }
-}
-
-// The first of the house numbers B1 to B6 that applies.
-pub fn check(
-    alias: u16,
-    write_lengths: u8,
-    spaces: &[u8],
-    flash: &[u8],
-    memory: &[u8],
-    out: &[u8],
-) -> HouseNumber
-    ensures { λ r. ⌜ r ≡ datagramHouse (fixed alias «write_lengths» (spacesIn (now (spaces .entry))) (now (flash .entry))) (now (memory .entry)) (now (out .entry)) ⌝ }
-{
-    let house = house::check_description(alias, spaces, flash.len(), memory.len());
-    if !house::is_good(house) {
-        return house;
-    }
-    if out.len() < 72 {
-        return HouseNumber::B6;
-    }
-    HouseNumber::Good
-}
-
-// Handles a datagram that is handed over whole.
-pub fn handle_datagram(
-    alias: u16,
-    write_lengths: u8,
-    spaces: &[u8],
-    flash: &[u8],
-    memory: &mut [u8],
-    lock: &mut [u8; 6],
-    datagram: &[u8],
-    out: &mut [u8],
-) -> Handled
-    ensures { λ r. ⌜ Ends (datagramCall (fixed alias «write_lengths» (spacesIn (now (spaces .entry))) (now (flash .entry))) (contents (now (memory .entry)) (now (lock .entry))) (now (datagram .entry)) (now (out .entry))) r (now (out .exit)) (now (memory .exit)) (now (lock .exit)) ⌝ }
-{
-    let house = check(alias, write_lengths, spaces, flash, &memory[..], &out[..]);
-    if !house::is_good(house) {
-        return Handled::Refused(house);
-    }
-    let answer = handle(
-        alias,
-        write_lengths,
-        spaces,
-        flash,
-        memory,
-        lock,
-        datagram,
-        out,
-    );
-    Handled::Answered(answer)
 }

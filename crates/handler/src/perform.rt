@@ -3,7 +3,6 @@ use command::Command;
 use fields::Form;
 use reply::Answer;
 ghost use mathlib.Core.Path.{_≡_};
-ghost use Prim.Native.Nat.{_≤_};
 ghost use Rattle.board.specs.Table.{spacesIn};
 ghost use Rattle.fields.specs.Commands.{restOf};
 ghost use Rattle.command.specs.Decoding.{requestOf};
@@ -61,7 +60,7 @@ pub fn perform(
             return reserve(&memory[..], lock, fields::rest(datagram), out);
         }
         Command::UpdateComplete => {
-            return Answer::Accepted;
+            return Answer::UpdateComplete;
         }
     }
 }

@@ -39,6 +39,11 @@ unfoldable pub among : ℕ → List ℕ → Bool
 among n [] = false
 among n (m ∷ rest) = eqb m n || among n rest
 
+-- The numbers of spaces, in their order.
+unfoldable pub numbersOf : List Space → List ℕ
+numbersOf [] = []
+numbersOf (s ∷ rest) = s .number ∷ numbersOf rest
+
 -- "B2 lowest above highest; B3 window past the end of its memory or flash; B4 writable in flash, or 0xFF writable"
 abbrev pub windowHouse : ℕ → ℕ → Space → HouseNumber
 windowHouse flash memory s =

@@ -1,45 +1,38 @@
 -- What each answer of the joining functions owes. The result of a callee is a variable here, with what the callee ensures of it.
 -- Assumes nothing.
 use mathlib.Core.Path.{_≡_, refl, sym, ap, _∙_, subst}
-use mathlib.Core.Bool.{Bool, true, false}
+use mathlib.Core.Bool.{Bool, true, false, cond, true≢false}
 use mathlib.Core.List.{List, [], _++_}
 use Prim.Native.Nat.{ℕ, _+_, _-_, _*_, _≤_, _<_}
 use native.Mathlib.Nat.{add-zero}
 use native.Mathlib.Omega.{arith}
+use lib.Dec.{leb, ltb, eqb}
 use lib.ListN.{length, take, drop, getD, length-drop}
 use lib.Seq.{length-take-le}
-use borrow.Author.Tests.{ne-eqb, le-leb, lt-leb}
+use borrow.Author.Tests.{ltb-true, ltb-false, leb-true, eqb-false, lt-leb}
 use Rattle.buffer.specs.Buffer.{putAt, placed}
-use Rattle.buffer.proofs.Laws.{placed-fits, take-put, drop-put}
+use Rattle.buffer.proofs.Laws.{placed-fits, placed-not, take-put, drop-put}
 use Rattle.frame.specs.declared.Role.{Role}
-use Rattle.frame.specs.declared.Role.the-variants.{Ignored, First, Middle, Last}
+use Rattle.frame.specs.declared.Role.the-variants.{Ignored, Single, First, Middle, Last}
 use Rattle.frame.specs.Frame.{canFrame, sourceOf, addressed, roleOf}
+use Rattle.step.specs.declared.Step.{Step}
+use Rattle.step.specs.declared.Step.the-variants.{Ignore, Deliver, Open, Append, Close, Refuse}
+use Rattle.step.specs.Step.{stepNew, stepMore, stepOf}
 use Rattle.reception.specs.Place.{Place, heldFor, freePlace}
-use Rattle.reception.specs.Books.{blank, holds, refuse, finish, outOfOrder, temporaryError, bufferUnavailable, fits}
-use Rattle.reception.specs.Reception.{State, placeOf, freeIn, hasPlace, full, sizeAt, bytesAt, dropped, Joined, joined, whereFits, middleAt, lastAt, joinRule, joinSound, receive, sound}
-use Rattle.reception.specs.PlaceBytes.{placesIn, stateIn}
+use Rattle.reception.specs.Books.{blank, holds, noAnswer, refuse, finish, outOfOrder, temporaryError, bufferUnavailable}
+use Rattle.reception.specs.Reception.{State, placeOf, freeIn, hasPlace, full, sizeAt, bytesAt, dropped, appended, closed, Joined, joined, joinRule, joinSound, receive, sound}
+use Rattle.reception.specs.PlaceBytes.{placesIn, placeBytes, stateIn}
 use Rattle.reception.proofs.PlaceLaws.{isFor-held, good-short, sound-good, place-found, place-out, free, free-out, blank-of}
 use Rattle.reception.proofs.ByteLaws.{places-length, renewed-same, Changed, changed-places, changed-bytes, differ-held, differ-len}
 use Rattle.places.specs.Search.{lookedUp}
 use Rattle.joining.specs.declared.Outcome.{Outcome}
 use Rattle.joining.specs.declared.Outcome.the-variants as outcome
 use Rattle.joining.specs.Joins.{eventOf, InsidePool, Joins}
-use Rattle.joining.specs.Inner.{Lent, Unfinished}
+use Rattle.joining.specs.Inner.{Lent, Fitting, performed}
 
 -- the state stays as it was
 pub stays-joins : (d pool xs : List ℕ) (o : Outcome) → InsidePool o → Joins (joined (stateIn xs pool) (eventOf o d pool)) d o xs xs pool
 stays-joins d pool xs o i = record { places = refl; renewal = renewed-same xs; pool = refl; event = refl; inside = i }
-
--- the datagram in place i is dropped
-pub refused-joins : (d pool xs : List ℕ) (i : ℕ) → Unfinished i xs → (o : Outcome) (after : List ℕ) (code : ℕ) → Changed i freePlace xs after → o ≡ outcome.Refuse code →
-    Joins (joined (dropped i (stateIn xs pool)) (refuse code)) d o xs after pool
-refused-joins d pool xs i u o after code c e = record {
-  places = changed-places c;
-  renewal = changed-bytes c (differ-held (getD (placesIn xs) i freePlace) freePlace true (u .held) refl);
-  pool = refl;
-  event = ap (λ (x : Outcome). eventOf x d pool) e;
-  inside = subst (λ (x : Outcome). InsidePool x) (sym e) tt;
-}
 
 -- ---- opened
 
@@ -73,82 +66,87 @@ module _ (s : ℕ) (d pool xs : List ℕ) (i : ℕ) (e : i ≡ freeIn (placesIn 
 
 -- ---- appended to, and closed
 
-module _ (i : ℕ) (d pool xs : List ℕ) (m : Lent pool d) (u : Unfinished i xs) where
+module _ (i n : ℕ) (last : Bool) (d pool xs : List ℕ) (m : Lent pool d) (u : Fitting i n last xs d) (after bytes : List ℕ) (a : bytes ≡ placed (72 * i + n) d pool) where
   abbrev st : State
   st = stateIn xs pool
 
-  abbrev old : ℕ
-  old = sizeAt i (placesIn xs)
+  put : bytes ≡ putAt (72 * i + n) d pool
+  put = a ∙ placed-fits (72 * i + n) d pool (omega (arith, u .inside, u .total, m .pool))
 
-  size-is : length (bytesAt i st) ≡ old
-  size-is = length-take-le old (drop (72 * i) pool) (rw length-drop (omega arith))
+  pub append-done : last ≡ false → (s : ℕ) → Changed i (heldFor s (n + length d)) xs after →
+      Joins (performed (cond last Close Append) true s i d st) d outcome.NoAnswer xs after bytes
+  append-done l s c =
+      rw (l, ← u .len)
+      (record {
+        places = changed-places c;
+        renewal = changed-bytes c (differ-len (getD (placesIn xs) i freePlace) (heldFor s (n + length d)) (λ q. omega (arith, q, u .len, u .some l)));
+        pool = put;
+        event = refl;
+        inside = tt;
+      })
 
-  pub over-joins : 72 < old + length d → (x : Joined) (o : Outcome) (after : List ℕ) → Changed i freePlace xs after → o ≡ outcome.Refuse temporaryError →
-      Joins (whereFits i (bytesAt i st) d st x) d o xs after pool
-  over-joins f x o after c e = rw (size-is, lt-leb (old + length d) 72 f) (refused-joins d pool xs i u o after temporaryError c e)
+  -- the part of the pool that is the datagram
+  whole : (end : ℕ) → end ≡ 72 * i + (n + length d) → take (end - 72 * i) (drop (72 * i) (putAt (72 * i + n) d pool)) ≡ take n (drop (72 * i) pool) ++ d
+  whole end q =
+      let k : end - 72 * i ≡ n + length d = omega arith in
+      let h : 72 * i + n ≤ length pool = omega (arith, u .inside, u .total, m .pool) in
+      let v : n ≤ length (drop (72 * i) pool) = rw length-drop (omega arith) in
+      rw (k, drop-put (72 * i) n d pool h) (take-put n d (drop (72 * i) pool) v)
 
-  module _ (f : old + length d ≤ 72) (after bytes : List ℕ) (a : bytes ≡ placed (72 * i + old) d pool) where
-    fits-is : fits (bytesAt i st) d ≡ true
-    fits-is = rw size-is (le-leb (old + length d) 72 f)
+  pub close-done : last ≡ true → (s end : ℕ) → Changed i freePlace xs after → end ≡ 72 * i + (n + length d) →
+      Joins (performed (cond last Close Append) true s i d st) d (outcome.InPool (72 * i) end) xs after bytes
+  close-done l s end c q =
+      rw (l, ← u .len)
+      (record {
+        places = changed-places c;
+        renewal = changed-bytes c (differ-held (getD (placesIn xs) i freePlace) freePlace true (u .held) refl);
+        pool = put;
+        event = ap finish (rw put (whole end q));
+        inside = (omega arith, omega (arith, u .inside, u .total));
+      })
 
-    put : bytes ≡ putAt (72 * i + old) d pool
-    put = a ∙ placed-fits (72 * i + old) d pool (omega arith)
+-- ---- what a step stands for
 
-    pub append-done : (s : ℕ) → 0 < length d → Changed i (heldFor s (old + length d)) xs after →
-        Joins (middleAt s i (bytesAt i st) d st) d outcome.NoAnswer xs after bytes
-    append-done s z c =
-        rw fits-is (record {
-          places = changed-places c;
-          renewal = changed-bytes c (differ-len (getD (placesIn xs) i freePlace) (heldFor s (old + length d)) (λ q. omega arith));
-          pool = put;
-          event = refl;
-          inside = tt;
-        })
+-- what is so where a step is taken
+Allowed : Step → Bool → ℕ → ℕ → Type 0
+Allowed Ignore b l n = Unit {0}
+Allowed Deliver b l n = Unit {0}
+Allowed Open b l n = Unit {0}
+Allowed Append b l n = (b ≡ true) × (0 < n) × (l + n ≤ 72)
+Allowed Close b l n = (b ≡ true) × (l + n ≤ 72)
+Allowed (Refuse code) b l n = Unit {0}
 
-    -- the part of the pool that is the datagram
-    whole : (end : ℕ) → end ≡ 72 * i + (old + length d) → take (end - 72 * i) (drop (72 * i) (putAt (72 * i + old) d pool)) ≡ bytesAt i st ++ d
-    whole end q =
-        let k : end - 72 * i ≡ old + length d = omega arith in
-        let n : 72 * i + old ≤ length pool = omega arith in
-        let v : old ≤ length (drop (72 * i) pool) = rw length-drop (omega arith) in
-        rw (k, drop-put (72 * i) old d pool n) (take-put old d (drop (72 * i) pool) v)
-
-    pub close-done : (end : ℕ) → Changed i freePlace xs after → end ≡ 72 * i + (old + length d) →
-        Joins (lastAt i (bytesAt i st) d st) d (outcome.InPool (72 * i) end) xs after bytes
-    close-done end c q =
-        rw fits-is (record {
-          places = changed-places c;
-          renewal = changed-bytes c (differ-held (getD (placesIn xs) i freePlace) freePlace true (u .held) refl);
-          pool = put;
-          event = ap finish (rw put (whole end q));
-          inside = (omega arith, omega arith);
-        })
-
--- ---- the frame of a source whose datagram is in place i
-
-module _ (role : Role) (s i : ℕ) (d pool xs : List ℕ) (q : i ≡ placeOf s (placesIn xs)) where
-  abbrev rule : Joined
-  rule = joinRule role s d (stateIn xs pool) (holds (bytesAt i (stateIn xs pool)))
-
-  pub more-ignored : role ≡ Ignored → Joins rule d outcome.Ignored xs xs pool
-  more-ignored e = rw e (stays-joins d pool xs outcome.Ignored tt)
-
-  module _ (o : Outcome) (after : List ℕ) where
-    pub more-dropped : Unfinished i xs → rule ≡ joined (dropped (placeOf s (placesIn xs)) (stateIn xs pool)) (refuse outOfOrder) →
-        Changed i freePlace xs after → o ≡ outcome.Refuse outOfOrder → Joins rule d o xs after pool
-    more-dropped u e c f = rw (e, ← q) (refused-joins d pool xs i u o after outOfOrder c f)
-
-    pub more-middle : role ≡ Middle → (length d ≡ 0 → ⊥) → (bytes : List ℕ) →
-        Joins (middleAt s i (bytesAt i (stateIn xs pool)) d (stateIn xs pool)) d o xs after bytes → Joins rule d o xs after bytes
-    more-middle e z bytes g = rw (e, ← q, ne-eqb (length d) 0 z) g
-
-    pub more-last : role ≡ Last → (bytes : List ℕ) →
-        Joins (lastAt i (bytesAt i (stateIn xs pool)) d (stateIn xs pool)) d o xs after bytes → Joins rule d o xs after bytes
-    more-last e bytes g = rw (e, ← q) g
+allowed : (role : Role) (n : ℕ) (b : Bool) (l : ℕ) → Allowed (stepOf role n b l) b l n
+unfolding stepOf Allowed
+allowed Ignored n true l = tt
+allowed Single n true l = tt
+allowed First n true l = tt
+allowed Middle n true l = go (eqb n 0) refl (leb (l + n) 72) refl
+  where
+    go : (z : Bool) → eqb n 0 ≡ z → (f : Bool) → leb (l + n) 72 ≡ f → Allowed (cond z (Refuse 0x2040) (cond f Append (Refuse 0x2000))) true l n
+    go true y f q = tt
+    go false y true q = (refl, omega (arith, eqb-false n 0 y), leb-true (l + n) 72 q)
+    go false y false q = tt
+allowed Last n true l = go (leb (l + n) 72) refl
+  where
+    go : (f : Bool) → leb (l + n) 72 ≡ f → Allowed (cond f Close (Refuse 0x2000)) true l n
+    go true q = (refl, leb-true (l + n) 72 q)
+    go false q = tt
+allowed Ignored n false l = tt
+allowed Single n false l = tt
+allowed First n false l = tt
+allowed Middle n false l = tt
+allowed Last n false l = tt
 
 -- ---- by whether the search found a place
 
-module _ (s i : ℕ) (pool xs : List ℕ) (e : i ≡ placeOf s (placesIn xs)) where
+module _ (s i : ℕ) (d pool xs : List ℕ) (m : Lent pool d) (g : sound (placesIn xs) ≡ true) (e : i ≡ placeOf s (placesIn xs)) where
+  abbrev here : State
+  here = stateIn xs pool
+
+  abbrev len : ℕ
+  len = sizeAt i (placesIn xs)
+
   found : i < 8 → hasPlace s (placesIn xs) ≡ true
   found h = go (hasPlace s (placesIn xs)) refl
     where
@@ -163,21 +161,78 @@ module _ (s i : ℕ) (pool xs : List ℕ) (e : i ≡ placeOf s (placesIn xs)) wh
       go true u = absurd (omega (arith, places-length xs, place-found s (placesIn xs) pool u .inside))
       go false u = u
 
-  pub found-unfinished : i < 8 → sound (placesIn xs) ≡ true → Unfinished i xs
-  found-unfinished h g =
-      let u : getD (placesIn xs) i freePlace .held ≡ true = rw e (isFor-held s _ (place-found s (placesIn xs) pool (found h) .own)) in
-      record { inside = h; held = u; short = good-short (placesIn xs) i (sound-good (placesIn xs) g) u (omega (arith, places-length xs)) }
+  is-held : i < 8 → getD (placesIn xs) i freePlace .held ≡ true
+  is-held h = rw e (isFor-held s _ (place-found s (placesIn xs) pool (found h) .own))
 
-  module _ (role : Role) (d : List ℕ) (o : Outcome) (after bytes : List ℕ) where
-    pub found-joins : i < 8 → Joins (joinRule role s d (stateIn xs pool) (holds (bytesAt i (stateIn xs pool)))) d o xs after bytes →
-        Joins (joinSound role s d (stateIn xs pool)) d o xs after bytes
-    unfolding joinSound
-    found-joins h g = rw (place-found s (placesIn xs) pool (found h) .bytes, ← e) g
+  size-is : i < 8 → length (bytesAt i here) ≡ len
+  size-is h =
+      let k : len ≤ 72 = good-short (placesIn xs) i (sound-good (placesIn xs) g) (is-held h) (omega (arith, places-length xs)) in
+      length-take-le len (drop (72 * i) pool) (rw length-drop (omega (arith, m .pool)))
 
-    pub not-found-joins : 8 ≤ i → Joins (joinRule role s d (stateIn xs pool) blank) d o xs after bytes →
-        Joins (joinSound role s d (stateIn xs pool)) d o xs after bytes
-    unfolding joinSound
-    not-found-joins h g = rw (blank-of s (placesIn xs) pool (not-found h)) g
+  more : (role : Role) → i < 8 → joinRule role s d here (holds (bytesAt i here)) ≡ performed (stepMore role len (length d)) true s i d here
+  more Ignored h = refl
+  more Single h = rw (← e) refl
+  more First h = rw (← e) refl
+  more Middle h = rw (← e, size-is h) (go (eqb (length d) 0) (leb (len + length d) 72))
+    where
+      go : (z f : Bool) →
+          cond z (joined (dropped i here) (refuse outOfOrder)) (cond f (joined (appended s d i here) noAnswer) (joined (dropped i here) (refuse temporaryError)))
+          ≡ performed (cond z (Refuse 0x2040) (cond f Append (Refuse 0x2000))) true s i d here
+      go true f = refl
+      go false true = refl
+      go false false = refl
+  more Last h = rw (← e, size-is h) (go (leb (len + length d) 72))
+    where
+      go : (f : Bool) → cond f (joined (closed d i here) (finish (bytesAt i here ++ d))) (joined (dropped i here) (refuse temporaryError)) ≡ performed (cond f Close (Refuse 0x2000)) true s i d here
+      go true = refl
+      go false = refl
+
+  new : (role : Role) → joinRule role s d here blank ≡ performed (stepNew role) false s i d here
+  new Ignored = refl
+  new Single = refl
+  new First = refl
+  new Middle = refl
+  new Last = refl
+
+  rules : (role : Role) (b : Bool) → ltb i 8 ≡ b → joinSound role s d here ≡ performed (stepOf role (length d) b len) b s i d here
+  unfolding joinSound stepOf
+  rules role true q = rw (place-found s (placesIn xs) pool (found (ltb-true i 8 q)) .bytes, ← e) (more role (ltb-true i 8 q))
+  rules role false q = rw (blank-of s (placesIn xs) pool (not-found (ltb-false i 8 q))) (new role)
+
+  module _ (role : Role) (l : ℕ) (k : l ≡ len) where
+    -- the step x that the rules give is taken
+    pub step-joins : (x : Step) → x ≡ stepOf role (length d) (ltb i 8) l → (o : Outcome) (after bytes : List ℕ) →
+        Joins (performed x (ltb i 8) s i d here) d o xs after bytes → Joins (joinSound role s d here) d o xs after bytes
+    step-joins x p o after bytes j = rw (rules role (ltb i 8) refl, ← k, ← p) j
+
+    pub step-fitting : (last : Bool) → cond last Close Append ≡ stepOf role (length d) (ltb i 8) l → Fitting i l last xs d
+    unfolding Allowed
+    step-fitting true p =
+        let w = subst (λ (x : Step). Allowed x (ltb i 8) l (length d)) (sym p) (allowed role (length d) (ltb i 8) l) in
+        let h = ltb-true i 8 (w .0) in
+        record { inside = h; held = is-held h; len = k; total = w .1; some = λ q. absurd (true≢false q) }
+    step-fitting false p =
+        let w = subst (λ (x : Step). Allowed x (ltb i 8) l (length d)) (sym p) (allowed role (length d) (ltb i 8) l) in
+        let h = ltb-true i 8 (w .0) in
+        record { inside = h; held = is-held h; len = k; total = w .2; some = λ q. w .1 }
+
+  -- the datagram in place i is dropped, if there is one
+  pub refused-joins : (code : ℕ) (o : Outcome) (after : List ℕ) → length xs ≡ 64 → after ≡ placed (8 * i) (placeBytes freePlace) xs → o ≡ outcome.Refuse code →
+      Joins (performed (Refuse code) (ltb i 8) s i d here) d o xs after pool
+  refused-joins code o after z a q = go (ltb i 8) refl
+    where
+      go : (b : Bool) → ltb i 8 ≡ b → Joins (performed (Refuse code) b s i d here) d o xs after pool
+      go true y =
+          let c : Changed i freePlace xs after = record { inside = ltb-true i 8 y; size = z; bytes = a } in
+          rw q
+          (record {
+            places = changed-places c;
+            renewal = changed-bytes c (differ-held (getD (placesIn xs) i freePlace) freePlace true (is-held (ltb-true i 8 y)) refl);
+            pool = refl;
+            event = refl;
+            inside = tt;
+          })
+      go false y = rw (q, a ∙ sym (placed-not (8 * i) (placeBytes freePlace) xs (omega (arith, ltb-false i 8 y)))) (stays-joins d pool xs (outcome.Refuse code) tt)
 
 -- ---- the frame
 

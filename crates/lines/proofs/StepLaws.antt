@@ -76,6 +76,19 @@ nothing-left a = after-behind a []
 not-both : {A : Type 0} {b : Bool} → b ≡ true → b ≡ false → A
 not-both p q = let z : _≡_ {A = ℕ} 0 1 = cc in absurd (omega arith)
 
+-- a step that completes a line is made of the line and of where it ends
+made-again : (b : Bool) (p : Parsed) (n : ℕ) (w : Carry) (m : ℕ) {next : Next} → next ≡ cond b (line p (carryWith []) n) (noLine w m) → next .complete ≡ true
+    → line (next .parsed) (carryOf []) (next .at) ≡ cond b (line p (carryWith []) n) (noLine w m)
+unfolding unfinished
+made-again true p n w m e q = rw e
+made-again false p n w m e q = not-both q (ap (λ (x : Next). x .complete) e)
+
+pub line-again : (carry : Carry) (chunk : List ℕ) (from : ℕ) {next : Next} → next ≡ nextOf carry chunk from → next .complete ≡ true
+    → line (next .parsed) (carryOf []) (next .at) ≡ nextOf carry chunk from
+unfolding nextOf
+line-again carry chunk from e q =
+    made-again (ltb (length (untilNewline (drop from chunk))) (length (drop from chunk))) _ _ _ _ e q
+
 -- behind a carry: a part of a line and its newline, and a part without
 module _ (carry : Carry) (xs : List ℕ) where
   read-line : (more : List ℕ) → readFrom carry (untilNewline xs ++ 10 ∷ more) ≡ parseOf (begunOf carry ++ untilNewline xs) ∷ readFrom (carryWith []) more

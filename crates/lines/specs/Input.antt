@@ -65,7 +65,7 @@ cutOff line = take kept line
 
 -- Behind what is kept stand zeros.
 abbrev pub carryWith : List ℕ → Carry
-carryWith line = record { len = length (cutOff line); text = cutOff line ++ replicate (29 - length (cutOff line)) 0 }
+carryWith line = record { len = length (cutOff line); text = cutOff line ++ replicate (29 - length (cutOff line)) 0; spare = replicate 2 0 }
 
 -- The carry behind a text that was read.
 abbrev pub carryOf : List ℕ → Carry

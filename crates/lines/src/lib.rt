@@ -1,18 +1,20 @@
 // An input in chunks cut into lines.
 use gridconnect::Parsed;
 ghost use mathlib.Core.Path.{_≡_};
-ghost use Prim.Native.Nat.{_≤_, min};
-ghost use lib.ListN.{length};
+ghost use Prim.Native.Nat.{_+_, _≤_, min};
+ghost use lib.ListN.{length, drop};
 ghost use mathlib.Core.List.{[], _++_};
 ghost use Rattle.gridconnect.specs.Line.{parseOf};
 ghost use Rattle.lines.specs.Input.{carryWith, carryOf, begunOf, untilNewline, nextOf, lastOf, Step, Ends, AnyCuts};
 
 // The beginning of an unfinished line, cut off at 29 bytes: one more than a good line has, so that a longer one is known to be bad.
-// A carry with a greater `len`, which no function here returns, is that of such a line.
+// A carry with a greater `len`, which no function here returns, is that of such a line. The spare bytes are zeros in what is returned and
+// are not read: with them a carry has 32 bytes, which are moved as two halves that do not overlap.
 #[repr(C)]
 pub struct Carry {
     pub len: u8,
     pub text: [u8; 29],
+    pub spare: [u8; 2],
 }
 
 // A step through a chunk: the line that it completes, if any, the carry afterwards, and the index up to which the chunk was read.
@@ -31,6 +33,7 @@ pub fn start() -> Carry
     Carry {
         len: 0,
         text: [0u8; 29],
+        spare: [0u8; 2],
     }
 }
 
@@ -53,14 +56,16 @@ fn append(carry: Carry, part: &[u8]) -> Carry
     Carry {
         len: (n + k) as u8,
         text,
+        spare: [0u8; 2],
     }
 }
 
-// How many bytes stand before the first newline, or in all.
-fn line_size(rest: &[u8]) -> usize
-    ensures { λ r. ⌜ r ≡ length (untilNewline (now (rest .entry))) ⌝ }
+// The index of the first newline from an index on, or the length.
+fn newline_from(rest: &[u8], from: usize) -> usize
+    requires { ⌜ from ≤ length (now rest) ⌝ }
+    ensures { λ r. ⌜ r ≡ from + length (untilNewline (drop from (now (rest .entry)))) ⌝ }
 {
-    let mut i: usize = 0;
+    let mut i = from;
     while i < rest.len() {
         if rest[i] == b'\n' {
             return i;
@@ -68,6 +73,29 @@ fn line_size(rest: &[u8]) -> usize
         i += 1;
     }
     i
+}
+
+// How many bytes stand before the first newline, or in all. Four are looked at in each turn.
+fn line_size(rest: &[u8]) -> usize
+    ensures { λ r. ⌜ r ≡ length (untilNewline (now (rest .entry))) ⌝ }
+{
+    let mut i: usize = 0;
+    while 4 <= rest.len() - i {
+        if rest[i] == b'\n' {
+            return i;
+        }
+        if rest[i + 1] == b'\n' {
+            return i + 1;
+        }
+        if rest[i + 2] == b'\n' {
+            return i + 2;
+        }
+        if rest[i + 3] == b'\n' {
+            return i + 3;
+        }
+        i += 4;
+    }
+    newline_from(rest, i)
 }
 
 // Reads the line that was begun in the carry and ends with the part. A line that stands whole in the chunk is not copied.

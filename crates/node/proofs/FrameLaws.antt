@@ -4,19 +4,12 @@ use Prim.Native.Nat.{ℕ, suc, _+_, _≤_}
 use mathlib.Core.Path.{_≡_, refl, sym, ap, _∙_}
 use mathlib.Core.Bool.{Bool, true, false, cond}
 use mathlib.Core.List.{List, [], _∷_, _++_}
-use native.Mathlib.Omega.{arith}
-use lib.Dec.{leb}
-use lib.ListN.{length, take, drop, length-append, length-take, length-drop}
-use borrow.Author.Tests.{le-ltb, leb-true}
-use Rattle.buffer.specs.Buffer.{placed, putAt}
-use Rattle.buffer.proofs.Choice.{cond-elim}
-use Rattle.buffer.proofs.Laws.{put-length}
+use lib.ListN.{length}
+use borrow.Author.Tests.{le-ltb}
 use Rattle.house.specs.HouseNumbers.{isGood, descriptionHouse}
 use Rattle.house.specs.declared.HouseNumber.{HouseNumber}
 use Rattle.house.specs.declared.HouseNumber.the-variants.{Good, B7}
-use Rattle.fields.specs.Commands.{Pair, Request, read, write, writeMasked, options, information, reserve, updateComplete}
-use Rattle.fields.specs.declared.Form.{Form}
-use Rattle.command.specs.Decoding.{Reading, rejected, request, decode}
+use Rattle.house.proofs.Laws.{is-good}
 use Rattle.frame.specs.Frame.{CanFrame}
 use Rattle.reception.specs.Place.{Place}
 use Rattle.reception.specs.Reception.{State, state, receive}
@@ -27,61 +20,28 @@ use Rattle.reception.proofs.Order.{order}
 use Rattle.joining.specs.Joins.{eventOf, InsidePool, Joins}
 use Rattle.joining.specs.declared.Outcome.{Outcome}
 use Rattle.joining.specs.declared.Outcome.the-variants as outcome
-use Rattle.access.specs.Access.{memoryAfter, masked, storeMasked}
-use Rattle.access.specs.declared.Access.{Access}
-use Rattle.access.specs.declared.Access.the-variants.{Fails, Reaches}
-use Rattle.handler.specs.Performing.{Fixed, Contents, perform, answerReading, handle}
-use Rattle.handler.specs.Datagram.{datagramHouse}
-use Rattle.reply.specs.Answers.{Result}
-use Rattle.node.specs.Frames.{handler, frameCall, Call, NodeOrder, Keeps}
+use Rattle.access.specs.Access.{Changes}
+use Rattle.handler.specs.Performing.{Fixed, Contents, handle, Performs}
+use Rattle.handler.proofs.Laws.{whole, handle-bounds}
+use Rattle.datagram.specs.Datagram.{datagramHouse}
+use Rattle.datagram.proofs.Laws.{answer-small}
+use Rattle.reply.specs.Answers.{Result, answerOf, bufferOf}
+use Rattle.reply.specs.declared.Answer.{Answer}
+use Rattle.reply.specs.declared.Answer.the-variants.{Rejected, Written, UpdateComplete, Replied}
+use Rattle.node.specs.Frames.{handler, frameCall, Call, NodeOrder, Answers, Keeps, SmallFrame, FrameChanges}
+use Rattle.node.specs.declared.FrameAnswer.{FrameAnswer}
+use Rattle.node.specs.declared.FrameAnswer.the-variants.{Answered}
 
 -- ---- memory keeps its size
 
-placed-length : (index : ℕ) (bytes memory : List ℕ) → length (placed index bytes memory) ≡ length memory
-unfolding placed
-placed-length index bytes memory =
-    cond-elim (λ (l : List ℕ). length l ≡ length memory) (leb (index + length bytes) (length memory))
-    {a = putAt index bytes memory} {b = memory}
-    (λ e. let h = leb-true (index + length bytes) (length memory) e in put-length index bytes memory (omega arith) h) (λ _. refl)
+changes-size : (a : Answer) (old new : List ℕ) → Changes a old new → length new ≡ length old
+changes-size (Rejected code) old new e = ap length e
+changes-size (Written index n) old new w = w .size
+changes-size UpdateComplete old new e = ap length e
+changes-size (Replied n) old new e = ap length e
 
-masked-length : (pairs : List Pair) (memory : List ℕ) → length (masked pairs memory) ≡ length memory
-unfolding masked
-masked-length [] memory = refl
-masked-length (p ∷ more) [] = refl
-masked-length (p ∷ more) (old ∷ memory) = ap suc (masked-length more memory)
-
-storeMasked-length : (pairs : List Pair) (index : ℕ) (memory : List ℕ) → length (storeMasked pairs index memory) ≡ length memory
-unfolding storeMasked
-storeMasked-length pairs index memory =
-    cond-elim (λ (l : List ℕ). length l ≡ length memory) (leb (index + length pairs) (length memory))
-    {a = take index memory ++ masked pairs (drop index memory)} {b = memory}
-    (λ _. rw (length-append (take index memory) (masked pairs (drop index memory)), masked-length pairs (drop index memory), length-take, length-drop) (omega arith))
-    (λ _. refl)
-
-write-keeps : (store : ℕ → List ℕ → List ℕ) (memory : List ℕ) (address : ℕ) → ((index : ℕ) → length (store index memory) ≡ length memory) →
-    (a : Access) → length (memoryAfter store memory address a) ≡ length memory
-unfolding memoryAfter
-write-keeps store memory address k (Fails code) = refl
-write-keeps store memory address k (Reaches s) = k _
-
-module _ (x : Fixed) (c : Contents) where
-  perform-keeps : (form : Form) (q : Request) → length (perform x c form q .contents .memory) ≡ length (c .memory)
-  unfolding perform
-  perform-keeps form (read space address count) = refl
-  perform-keeps form (write space address bytes) = write-keeps _ (c .memory) address (λ index. placed-length index bytes (c .memory)) _
-  perform-keeps form (writeMasked space address pairs) = write-keeps _ (c .memory) address (λ index. storeMasked-length pairs index (c .memory)) _
-  perform-keeps form options = refl
-  perform-keeps form (information space) = refl
-  perform-keeps form (reserve id) = refl
-  perform-keeps form updateComplete = refl
-
-  reading-keeps : (r : Reading) → length (answerReading x c r .contents .memory) ≡ length (c .memory)
-  reading-keeps (rejected code) = refl
-  reading-keeps (request form q) = perform-keeps form q
-
-  handle-keeps : (d : List ℕ) → length (handle x c d .contents .memory) ≡ length (c .memory)
-  unfolding handle
-  handle-keeps d = reading-keeps (decode d)
+handle-keeps : (x : Fixed) (c : Contents) (d : List ℕ) → length (handle x c d .contents .memory) ≡ length (c .memory)
+handle-keeps x c d = changes-size (answerOf (handle x c d .result)) (c .memory) (handle x c d .contents .memory) (handle-bounds x c d .changes)
 
 -- ---- the frame call
 
@@ -92,6 +52,38 @@ answer-state h st c noAnswer = refl
 answer-state h st c (refuse code) = refl
 answer-state h st c (finish d) = refl
 answer-state h st c badState = refl
+
+-- a finished datagram, handled with a buffer that takes every reply
+pub answers-finish : (x : Fixed) (c : Contents) (d buffer : List ℕ) → 72 ≤ length buffer → {r : Answer} {after stored held : List ℕ} →
+    Performs (handle x c d) r buffer after stored held → (st : State) →
+    Answers (answerEvent B7 (handler x) st c (finish d)) (Answered r) buffer after stored held
+answers-finish x c d buffer h p st =
+    let w = whole (handle x c d .result) buffer (p .short) h in
+    record {
+      answer = ap Answered (p .answer .answer ∙ ap answerOf w);
+      reply = p .answer .buffer ∙ ap (λ y. bufferOf y buffer) w;
+      memory = p .memory;
+      lock = p .lock;
+      short = p .short;
+    }
+
+-- the numbers of an answer, and what it says of memory
+
+module _ (x : Fixed) (c : Contents) (st : State) {r : FrameAnswer} {before after stored held : List ℕ} where
+  event-small : (buffer : List ℕ) → datagramHouse x (c .memory) buffer ≡ Good →
+      (e : Event) → Answers (answerEvent B7 (handler x) st c e) r before after stored held → SmallFrame r
+  event-small buffer g ignored p = rw (p .answer) tt
+  event-small buffer g noAnswer p = rw (p .answer) tt
+  event-small buffer g (refuse code) p = rw (p .answer) tt
+  event-small buffer g (finish d) p = rw (p .answer) (answer-small x c d buffer g (p .short))
+  event-small buffer g badState p = rw (p .answer) tt
+
+  event-changes : (e : Event) → Answers (answerEvent B7 (handler x) st c e) r before after stored held → FrameChanges r (c .memory) stored
+  event-changes ignored p = rw (p .answer) (p .memory)
+  event-changes noAnswer p = rw (p .answer) (p .memory)
+  event-changes (refuse code) p = rw (p .answer) (p .memory)
+  event-changes (finish d) p = rw (p .answer, p .memory) (handle-bounds x c d .changes)
+  event-changes badState p = rw (p .answer) (p .memory)
 
 module _ (x : Fixed) (buffer : List ℕ) (st : State) (c : Contents) (f : CanFrame) where
   pub call-refused : {house : HouseNumber} → house ≡ datagramHouse x (c .memory) buffer → isGood house ≡ false →
@@ -115,6 +107,15 @@ module _ (x : Fixed) (buffer : List ℕ) (st : State) (c : Contents) (f : CanFra
         let r = receive (x .alias) st f .state in
         let s : frameCall x buffer st c f .state ≡ r = ap (λ y. y .state) call-joined ∙ answer-state (handler x) r c (eventOf o (f .payload) bytes) in
         rw s (record { places = g .places; renewal = g .renewal; pool = g .pool })
+
+    module _ {r : FrameAnswer} {reply stored held : List ℕ}
+        (p : Answers (answerEvent B7 (handler x) (receive (x .alias) st f .state) c (eventOf o (f .payload) bytes)) r buffer reply stored held) where
+      pub call-small : SmallFrame r
+      call-small =
+          event-small x c (receive (x .alias) st f .state) buffer (is-good (datagramHouse x (c .memory) buffer) q) (eventOf o (f .payload) bytes) p
+
+      pub call-changes : FrameChanges r (c .memory) stored
+      call-changes = event-changes x c (receive (x .alias) st f .state) (eventOf o (f .payload) bytes) p
 
 pub inside-at : (o : Outcome) (from end : ℕ) → o ≡ outcome.InPool from end → InsidePool o → (from ≤ end) × (end ≤ 576)
 inside-at o from end e i = rw e at i

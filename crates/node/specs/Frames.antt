@@ -12,9 +12,10 @@ use Rattle.reception.specs.Reception.{State}
 use Rattle.reception.specs.Order as order
 use Rattle.reception.specs.Order.{FrameResult, result, houseRefusal, ignoredFrame, nothing, transportRefusal, handled, handleFrame, OrderStatement}
 use Rattle.reception.specs.PlaceBytes.{placesIn, renewed}
-use Rattle.reply.specs.Answers.{Result, answerOf, bufferOf}
-use Rattle.handler.specs.Performing.{Fixed, Contents, Outcome, handle}
-use Rattle.handler.specs.Datagram.{datagramHouse}
+use Rattle.reply.specs.Answers.{Result, answerOf, bufferOf, SmallAnswer}
+use Rattle.access.specs.Access.{Changes}
+use Rattle.handler.specs.Performing.{Fixed, Contents, Outcome, handle, Short}
+use Rattle.datagram.specs.Datagram.{datagramHouse}
 use Rattle.node.specs.declared.FrameAnswer.{FrameAnswer}
 use Rattle.node.specs.declared.FrameAnswer.the-variants as answer
 
@@ -66,12 +67,37 @@ frameBufferOf nothing buffer = buffer
 frameBufferOf (transportRefusal code) buffer = buffer
 frameBufferOf (handled r) buffer = bufferOf r buffer
 
+-- "No reply is over 72 bytes", and a write has "1–64 data bytes".
+abbrev pub ShortFrame : order.Answer HouseNumber Result → Type 0
+ShortFrame (houseRefusal house) = Unit {0}
+ShortFrame ignoredFrame = Unit {0}
+ShortFrame nothing = Unit {0}
+ShortFrame (transportRefusal code) = Unit {0}
+ShortFrame (handled r) = Short r
+
 -- The answer r, the buffer `after`, memory and lock are what x says, over the buffer `before`.
 pub record Answers (x : FrameResult HouseNumber Contents Result) (r : FrameAnswer) (before after stored held : List ℕ) : Type 0 where
   pub answer : r ≡ frameAnswerOf (x .answer)
   pub reply : after ≡ frameBufferOf (x .answer) before
   pub memory : stored ≡ x .world .memory
   pub lock : held ≡ x .world .lock
+  pub short : ShortFrame (x .answer)
+
+-- How large the numbers of an answer are.
+abbrev pub SmallFrame : FrameAnswer → Type 0
+SmallFrame (answer.Refused house) = Unit {0}
+SmallFrame answer.Ignored = Unit {0}
+SmallFrame answer.Nothing = Unit {0}
+SmallFrame (answer.TransportRefusal code) = Unit {0}
+SmallFrame (answer.Answered a) = SmallAnswer a
+
+-- Memory, which was `old` and is `new`, by the answer: only a finished datagram changes it, in the bytes that its answer names.
+abbrev pub FrameChanges : FrameAnswer → List ℕ → List ℕ → Type 0
+FrameChanges (answer.Refused house) old new = new ≡ old
+FrameChanges answer.Ignored old new = new ≡ old
+FrameChanges answer.Nothing old new = new ≡ old
+FrameChanges (answer.TransportRefusal code) old new = new ≡ old
+FrameChanges (answer.Answered a) old new = Changes a old new
 
 -- The bytes of the places, which were `before` and are `after`, and the pool are what x says. A place that is changed gets its bytes anew,
 -- and every other keeps all of them.

@@ -8,7 +8,7 @@ ghost use Rattle.board.specs.Table.{spacesIn};
 ghost use Rattle.frame.specs.Frame.{canFrame};
 ghost use Rattle.reception.specs.PlaceBytes.{stateIn};
 ghost use Rattle.handler.specs.Performing.{fixed, contents};
-ghost use Rattle.node.specs.Frames.{frameCall, Answers, Keeps, NodeOrder};
+ghost use Rattle.node.specs.Frames.{frameCall, Answers, Keeps, SmallFrame, FrameChanges, NodeOrder};
 
 // What comes of a frame: a house number; an ignored frame; a frame that is joined and not answered; a transport refusal, sent as
 // Rejected with its code; or the answer to the datagram that the frame finishes.
@@ -36,9 +36,11 @@ pub fn handle_frame(
 ) -> FrameAnswer
     ensures answers { λ r. ⌜ Answers (frameCall (fixed alias «write_lengths» (spacesIn (now (spaces .entry))) (now (flash .entry))) (now (out .entry)) (stateIn (now (places .entry)) (now (pool .entry))) (contents (now (memory .entry)) (now (lock .entry))) (canFrame header (now (payload .entry)))) r (now (out .entry)) (now (out .exit)) (now (memory .exit)) (now (lock .exit)) ⌝ }
     ensures keeps { λ _. ⌜ Keeps (frameCall (fixed alias «write_lengths» (spacesIn (now (spaces .entry))) (now (flash .entry))) (now (out .entry)) (stateIn (now (places .entry)) (now (pool .entry))) (contents (now (memory .entry)) (now (lock .entry))) (canFrame header (now (payload .entry)))) (now (places .entry)) (now (places .exit)) (now (pool .exit)) ⌝ }
+    ensures small { λ r. ⌜ SmallFrame r ⌝ }
+    ensures changes { λ r. ⌜ FrameChanges r (now (memory .entry)) (now (memory .exit)) ⌝ }
     ensures order { λ _. ⌜ NodeOrder (fixed alias «write_lengths» (spacesIn (now (spaces .entry))) (now (flash .entry))) ⌝ }
 {
-    let house = handler::check(alias, write_lengths, spaces, flash, &memory[..], &out[..]);
+    let house = datagram::check(alias, write_lengths, spaces, flash, &memory[..], &out[..]);
     if !house::is_good(house) {
         return FrameAnswer::Refused(house);
     }

@@ -1,7 +1,8 @@
 // The eight places of the reception state in their 64 lent bytes: read, searched, tested for B7, and one of them changed. A place that
 // is not there reads as free, and nothing is changed for it.
 ghost use mathlib.Core.Path.{_≡_};
-ghost use Prim.Native.Nat.{_+_, _*_, _≤_, _<_};
+ghost use mathlib.Core.Bool.{true, false};
+ghost use Prim.Native.Nat.{ℕ, _+_, _*_, _≤_, _<_};
 ghost use lib.ListN.{take, getD};
 ghost use Rattle.buffer.specs.Buffer.{placed};
 ghost use Rattle.reception.specs.Place.{place, heldFor, freePlace};
@@ -156,10 +157,22 @@ fn next_found(places: &[u8; 64], i: usize, source: u16, found: usize) -> usize
     found
 }
 
+// Whether no place holds a datagram, asked of all eight at once: so it is for most frames.
+fn is_idle(places: &[u8; 64]) -> bool
+    ensures { λ r. ⌜ (r ≡ true → (i : ℕ) → getD (placesIn (now (places .entry))) i freePlace .held ≡ false) ⌝ }
+{
+    let first = places[0] | places[8] | places[16] | places[24];
+    let second = places[32] | places[40] | places[48] | places[56];
+    first | second == 0
+}
+
 // The place of a source, 8 where there is none, and 9 where B7 refuses the places.
 pub fn look_up(places: &[u8; 64], source: u16) -> usize
     ensures { λ r. ⌜ r ≡ lookedUp source (placesIn (now (places .entry))) ⌝ }
 {
+    if is_idle(places) {
+        return PLACES;
+    }
     let mut found: usize = PLACES;
     let mut i: usize = 0;
     while i < PLACES {

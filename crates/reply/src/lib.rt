@@ -8,11 +8,12 @@ ghost use lib.ListN.{length};
 ghost use Rattle.reply.specs.Replies.{readReply, failedRead, failedWrite, lockReply};
 ghost use Rattle.reply.specs.Answers.{receivedOkReply, Agrees};
 
-// The answer to a datagram: Rejected with a code, Received OK 0x00 and nothing more, or Received OK 0x80
-// and a reply of that many bytes in the buffer.
+// The answer to a datagram: Rejected with a code; Received OK 0x00 to a write, which changed so many bytes of memory from an index on;
+// Received OK 0x00 to Update Complete; or Received OK 0x80 and a reply of that many bytes in the buffer.
 pub enum Answer {
     Rejected(u16),
-    Accepted,
+    Written(usize, usize),
+    UpdateComplete,
     Replied(usize),
 }
 

@@ -2,7 +2,7 @@
 // memory that changed, and the lock memory afterwards. The datagrams are lines of hexadecimal digits on standard input. A line that starts
 // with `#` is printed again; `@` and a digit says how many of the board's spaces are described from there on, `@L` that the lock is held
 // before each datagram, and `@U` that it is free.
-use handler::Handled;
+use datagram::Handled;
 use libc::STDIN_FILENO;
 use libc::STDOUT_FILENO;
 use reply::Answer;
@@ -112,7 +112,11 @@ fn push_answer(line: &mut [u8], at: usize, answer: Answer, reply: &[u8]) -> usiz
             let end = push_code(line, named, code);
             return push_untouched(line, end, reply, 0);
         }
-        Answer::Accepted => {
+        Answer::Written(_, _) => {
+            let end = push_text(line, at, b"Received OK 00");
+            return push_untouched(line, end, reply, 0);
+        }
+        Answer::UpdateComplete => {
             let end = push_text(line, at, b"Received OK 00");
             return push_untouched(line, end, reply, 0);
         }
@@ -147,7 +151,7 @@ fn run_on(datagram: &[u8], count: u8, held: [u8; 6], line: &mut [u8]) {
     let mut memory = demonstration::memory_bytes();
     let mut lock = held;
     let mut reply = [FILL; 80];
-    let handled = handler::handle_datagram(
+    let handled = datagram::handle_datagram(
         demonstration::alias(),
         demonstration::write_lengths(),
         buffer::part(&table, 0, count as usize * 16),

@@ -1,10 +1,16 @@
 //! Holds a board as each side has it: what a caller keeps between two frames.
+//!
+//! What is measured is a frame from its arrival to the frames that are to be sent for it, which lie
+//! in room that the caller lends, on either side. The library does that in one call. The model
+//! does it in two, as its caller would write them: it handles the frame, and then writes the
+//! transport reply and the frames of the reply. Neither side allocates, and neither hands frames on
+//! by value.
 
 use std::hint::black_box;
 
 use compare::ffi::{self, Lock, Places, Pool, PLACE_BYTES};
-use compare::layout::{canonical, set_place, Held};
-use model::{FrameAnswer, Reception, Space, Unfinished};
+use compare::layout::{canonical, frame_bytes, set_place, Held};
+use model::{FrameAnswer, Reception, Space, Unfinished, MOST_SENT};
 
 /// A frame to be fed in.
 #[derive(Clone, Copy, Debug)]
@@ -62,6 +68,7 @@ pub struct LibraryBoard {
     pool: Pool,
     places: Places,
     reply: [u8; 72],
+    frames: [u8; ffi::SENT_SIZE],
 }
 
 /// The board as a caller of the model keeps it.
@@ -71,6 +78,7 @@ pub struct ModelBoard {
     lock: model::Lock,
     reception: Reception,
     reply: [u8; 72],
+    frames: [model::Frame; MOST_SENT],
 }
 
 /// The bytes of a space in a table.
@@ -109,13 +117,15 @@ impl LibraryBoard {
             pool,
             places,
             reply: [0; 72],
+            frames: [0; ffi::SENT_SIZE],
         }
     }
 
-    /// Feeds one frame in, as a driver does.
+    /// Feeds one frame in, as a driver does: what came of it, with the number of frames to be
+    /// sent, which are at the start of the room for them.
     #[inline]
     pub fn frame(&mut self, frame: &Incoming) -> ffi::Numbers {
-        ffi::handle_frame(
+        let numbers = ffi::handle_frame(
             self.alias,
             WRITE_LENGTHS,
             black_box(&self.table),
@@ -127,7 +137,16 @@ impl LibraryBoard {
             frame.header,
             frame.data(),
             &mut self.reply,
-        )
+            &mut self.frames,
+        );
+        black_box(&self.frames);
+        numbers
+    }
+
+    /// The first so many frames of the room for them, as bytes.
+    #[must_use]
+    pub fn sent(&self, count: usize) -> Vec<[u8; ffi::FRAME_SIZE]> {
+        self.frames.as_chunks().0[..count].to_vec()
     }
 
     /// The reply buffer.
@@ -165,24 +184,27 @@ impl ModelBoard {
             lock: [0; 6],
             reception: Reception::from_unfinished(&begun).expect("at most eight tools"),
             reply: [0; 72],
+            frames: [model::Frame::EMPTY; MOST_SENT],
             blueprint: blueprint.clone(),
         }
     }
 
-    /// Feeds one frame in.
+    /// Feeds one frame in: what came of it, and the number of frames to be sent, which are at the
+    /// start of the room for them.
     ///
     /// # Panics
     ///
     /// Where the board is refused.
     #[inline]
-    pub fn frame(&mut self, frame: &Incoming) -> FrameAnswer {
+    pub fn frame(&mut self, frame: &Incoming) -> (FrameAnswer, usize) {
         let description = model::Description {
             alias: self.blueprint.alias,
             write_lengths: WRITE_LENGTHS,
             spaces: &self.blueprint.spaces,
         };
-        model::handle_frame(
-            black_box(&description),
+        let description = black_box(&description);
+        let answer = model::handle_frame(
+            description,
             &self.blueprint.flash,
             &mut self.memory,
             &mut self.lock,
@@ -191,7 +213,22 @@ impl ModelBoard {
             frame.data(),
             &mut self.reply,
         )
-        .expect("a good board")
+        .expect("a good board");
+        let count = model::frames_to_send(
+            description.alias,
+            frame.header,
+            Ok(answer),
+            &self.reply,
+            &mut self.frames,
+        );
+        black_box(&self.frames);
+        (answer, count)
+    }
+
+    /// The first so many frames of the room for them, as the library's bytes.
+    #[must_use]
+    pub fn sent(&self, count: usize) -> Vec<[u8; ffi::FRAME_SIZE]> {
+        self.frames[..count].iter().map(frame_bytes).collect()
     }
 
     /// The reply buffer.

@@ -1,4 +1,5 @@
-//! Holds the benchmark: library and model on the same frames, in nanoseconds for each frame.
+//! Holds the benchmark: library and model on the same frames, in nanoseconds for each frame that
+//! comes in, with the frames that are to be sent for it made on either side.
 //! `bench [--check] [NAME]` measures only what has the name in its own. With `--check` it prints
 //! the ratio of each row and whether it is within the goal, and fails where one is not.
 
@@ -8,6 +9,7 @@ use std::process::ExitCode;
 
 use bench::measure::{measure, Figures, Subject};
 use bench::scenes::{by_others, by_spaces, on_four_spaces};
+use bench::splitting::{chunk, split_by_library, split_by_model};
 use compare::ffi;
 
 /// The library is to take no longer than the model.
@@ -16,6 +18,9 @@ const GOAL: f64 = 1.0;
 /// The row that the goal is not set for: a call of a few instructions, which the compiler puts
 /// into its caller where it is the model's and cannot where it is the library's.
 const EXEMPT: &str = "Received OK frame";
+
+const BOARD: u16 = 0x22B;
+const TOOL: u16 = 0x123;
 
 fn main() -> ExitCode {
     let mut check = false;
@@ -101,31 +106,15 @@ fn print_ratios(groups: &[Vec<Subject>]) -> ExitCode {
 fn smaller_calls() -> Vec<Subject<'static>> {
     const REPLY: [u8; 70] = [0x5A; 70];
     const LINE: &[u8] = b":X1A22B123N200100000002ABCD;";
-    const BOARD: u16 = 0x22B;
-    const TOOL: u16 = 0x123;
-    let line_frame = ffi::parse_line(LINE).frame;
-    let model_frame = model::parse_line(LINE).expect("a good line");
-    let (mut long, mut short) = ([0; ffi::FRAMES_SIZE], [0; ffi::FRAMES_SIZE]);
-    let mut frame = [0; ffi::FRAME_SIZE];
-    let mut out = [0; 29];
-    let mut model_out = [0; model::LONGEST_LINE];
+    const SHORT_LINE: &[u8] = b":X1A22B123N2080;";
+    let mut room = [0; ffi::SENT_SIZE];
     vec![
-        Subject::new(
-            "cut of 70 bytes",
-            1,
-            repeat(move || ffi::cut(black_box(&REPLY), TOOL, BOARD, black_box(&mut long))),
-            repeat(|| model::cut(black_box(&REPLY), TOOL, BOARD)),
-        ),
-        Subject::new(
-            "cut of 8 bytes",
-            1,
-            repeat(move || ffi::cut(black_box(&REPLY[..8]), TOOL, BOARD, black_box(&mut short))),
-            repeat(|| model::cut(black_box(&REPLY[..8]), TOOL, BOARD)),
-        ),
+        cut("cut of 70 bytes", &REPLY),
+        cut("cut of 8 bytes", &REPLY[..8]),
         Subject::new(
             EXEMPT,
             1,
-            repeat(move || ffi::received_ok(black_box(BOARD), TOOL, 0x80, black_box(&mut frame))),
+            repeat(move || ffi::received_ok(black_box(BOARD), TOOL, 0x80, black_box(&mut room))),
             repeat(|| model::received_ok_frame(black_box(BOARD), TOOL, 0x80)),
         ),
         Subject::new(
@@ -134,15 +123,53 @@ fn smaller_calls() -> Vec<Subject<'static>> {
             repeat(|| ffi::parse_line(black_box(LINE))),
             repeat(|| model::parse_line(black_box(LINE))),
         ),
-        Subject::new(
-            "line with 8 bytes of data printed",
-            1,
-            repeat(move || ffi::print_frame(black_box(line_frame), black_box(&mut out), 0)),
-            repeat(move || {
-                model::print_line(black_box(&model_frame), black_box(&mut model_out)).len()
-            }),
-        ),
+        print("line with 8 bytes of data printed", LINE),
+        print("line with 2 bytes of data printed", SHORT_LINE),
+        split("line of a chunk of 64 KiB, split off and read"),
     ]
+}
+
+/// A datagram cut into frames, on either side into lent room.
+fn cut(name: &str, datagram: &'static [u8]) -> Subject<'static> {
+    let mut room = [0; ffi::SENT_SIZE];
+    let mut model_room = [model::Frame::EMPTY; model::MOST_FRAMES];
+    Subject::new(
+        name,
+        1,
+        repeat(move || ffi::cut(black_box(datagram), BOARD, TOOL, black_box(&mut room))),
+        repeat(move || {
+            model::cut_into(black_box(datagram), TOOL, BOARD, black_box(&mut model_room))
+        }),
+    )
+}
+
+/// The frame of a line printed, on either side into a lent buffer. The library puts a newline
+/// behind it and looks whether there is room for it; the model's buffer has room for any line.
+fn print(name: &str, line: &[u8]) -> Subject<'static> {
+    let frame = ffi::parse_line(line).frame;
+    let model_frame = model::parse_line(line).expect("a good line");
+    let mut out = [0; 29];
+    let mut model_out = [0; model::LONGEST_LINE];
+    Subject::new(
+        name,
+        1,
+        repeat(move || ffi::print_frame(black_box(frame), black_box(&mut out), 0)),
+        repeat(move || model::print_line(black_box(&model_frame), black_box(&mut model_out)).len()),
+    )
+}
+
+/// A chunk split into lines, each of them read as a frame or found to be none.
+fn split(name: &str) -> Subject<'static> {
+    let text = chunk(1 << 16);
+    let model_text = text.clone();
+    let lines = split_by_library(&text);
+    assert_eq!(lines, split_by_model(&text), "{name}");
+    Subject::new(
+        name,
+        lines.lines,
+        repeat(move || split_by_library(black_box(&text))),
+        repeat(move || split_by_model(black_box(&model_text))),
+    )
 }
 
 /// Does something so many times.

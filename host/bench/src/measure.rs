@@ -64,8 +64,12 @@ impl<'s> Subject<'s> {
         let mut model = ModelBoard::new(&scene.blueprint);
         for frame in &scene.frames {
             let name = &scene.name;
-            let answer = Answer::from(library.frame(frame));
-            assert_eq!(answer, Answer::from(Ok(model.frame(frame))), "{name}");
+            let numbers = library.frame(frame);
+            let answer = Answer::from(numbers);
+            let (model_answer, count) = model.frame(frame);
+            assert_eq!(answer, Answer::from(Ok(model_answer)), "{name}");
+            assert_eq!(usize::from(numbers.frame_count), count, "{name}");
+            assert_eq!(library.sent(count), model.sent(count), "{name}");
             assert!(!matches!(answer, Answer::TransportRefusal(_)), "{name}");
             assert_eq!(library.reply(), model.reply(), "{name}");
             assert_eq!(library.memory(), model.memory(), "{name}");

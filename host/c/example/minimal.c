@@ -1,14 +1,14 @@
 /*
  * A minimal board: 64 bytes of settings that tools may read and write, and a CDI that they may read.
  *
- * The CAN controller is played by an array of received frames and by standard output. In a driver can_receive and can_send talk to the
- * hardware; the rest stays as it is.
+ * The CAN controller is played by an array of received frames and by standard output. In a driver can_receive, can_send and store talk to
+ * the hardware; the rest stays as it is.
  */
 #include "bujorelm.h"
 
 #include <stdio.h>
 
-/* ---- The CAN controller ---- */
+/* ---- The hardware ---- */
 
 struct received {
     uint32_t header;
@@ -16,12 +16,14 @@ struct received {
     uint8_t data[8];
 };
 
-/* The next received frame with an extended header; false where there is none. */
+/* The next received data frame with an extended header; false where there is none. */
 static bool can_receive(struct received *frame)
 {
     static const struct received bus[] = {
         /* From alias 0x456: write 11 22 to address 2 of space 0xFD. */
         {0x1A123456, 8, {0x20, 0x01, 0x00, 0x00, 0x00, 0x02, 0x11, 0x22}},
+        /* Update Complete. */
+        {0x1A123456, 2, {0x20, 0xA8}},
         /* Read 16 bytes from address 0 of space 0xFD. */
         {0x1A123456, 7, {0x20, 0x41, 0x00, 0x00, 0x00, 0x00, 0x10}},
         /* A command that the board does not know. */
@@ -48,6 +50,17 @@ static bool can_send(void *context, const struct bujorelm_frame *frame)
     return true;
 }
 
+/* Stores bytes so that they outlast a power cut; false where that fails. */
+static bool store(size_t at, const uint8_t *bytes, size_t len)
+{
+    printf("store at %zu:", at);
+    for (size_t i = 0; i < len; i++) {
+        printf(" %02X", bytes[i]);
+    }
+    printf("\n");
+    return true;
+}
+
 /* ---- The board ---- */
 
 static const uint8_t cdi[] = "<cdi/>"; /* with the zero byte that ends it */
@@ -65,25 +78,37 @@ static const struct bujorelm_description description = {
     .spaces = spaces,
 };
 
+static struct bujorelm_node node;
+
+/* A received frame: handled, then stored, then answered. */
+static void board_receive(const struct received *frame)
+{
+    const struct bujorelm_result result = bujorelm_node_handle_frame(&node, frame->header, frame->data, frame->len);
+
+    if (result.kind == BUJORELM_WRITTEN && !store(result.changed_at, settings + result.changed_at, result.changed_len)) {
+        /* A tool that hears nothing does not rely on what it wrote. */
+        return;
+    }
+    if (!bujorelm_send_frames(node.frames, result.frame_count, can_send, NULL)) {
+        fputs("no room for the answer\n", stderr);
+    }
+}
+
 int main(void)
 {
-    static struct bujorelm_node node;
     struct received frame;
 
+    if (!bujorelm_version_fits()) {
+        fputs("the archive is of another version than the header\n", stderr);
+        return 1;
+    }
     bujorelm_node_start(&node, &description, cdi, sizeof cdi, settings, sizeof settings);
     if (bujorelm_node_check(&node) != BUJORELM_HOUSE_NONE) {
         fputs("the board description is wrong\n", stderr);
         return 1;
     }
     while (can_receive(&frame)) {
-        struct bujorelm_numbers answer;
-
-        if (!bujorelm_node_receive(&node, frame.header, frame.data, frame.len, can_send, NULL, &answer)) {
-            fputs("no room for the answer\n", stderr);
-        }
-        if (answer.kind == BUJORELM_ACCEPTED) {
-            /* A write may have changed the settings: a driver that keeps them over a power cycle stores them about now. */
-        }
+        board_receive(&frame);
     }
     return 0;
 }

@@ -1,25 +1,35 @@
 /*
  * bujorelm.h - the board's side of OpenLCB memory configuration, for a CAN driver in C.
  *
- * The library (libdriver.a, built by `rt staticlib driver`) joins the datagram frames that a board receives, handles each finished
- * datagram, and makes the frames that the board sends back. "Document 01" below is the paper that fixes its behaviour. docs/DRIVER.md
- * shows how a driver uses it.
+ * Platform:  x86-64 with the System V calling convention, as on Linux.
+ * Toolchain: rattle-kit-5b, logic 064da1ca440f63e7 (`rt version`); the archive is built by `rt staticlib driver`.
+ *
+ * The archive libdriver.a holds machine code for x86-64 and for nothing else today. It cannot be linked into the firmware of a board with
+ * another processor, such as an ARM Cortex-M: that needs a backend of the toolchain for that processor, and then the layout below has to
+ * be held against that backend's. Until then the library serves boards and gateways that are x86-64 machines, and tests on a PC. The
+ * compiler is stopped below where the platform or the layout of a struct is not the library's.
+ *
+ * The library joins the datagram frames that a board receives, handles each finished datagram, and gives the frames that the board sends
+ * back. "Document 01" below is the paper that fixes its behaviour. docs/DRIVER.md shows how a driver uses it.
  *
  * Rules that hold for every function:
  *
  * - Nothing is allocated, nothing is static: all state is the caller's. No pointer is kept after a call, so a buffer may be moved or
- *   freed as soon as the call is back. Calls for different boards may run at once; calls for one board must not.
- * - All that a board has is lent, and changed in place. A buffer is a pointer and then its length; what has one size, as the lock memory,
- *   is a pointer alone. What is lent as `const` is read only, and never past its length. Of what is lent and not `const` nothing past its
- *   length is touched. Where a length is 0 the pointer is not used and may be NULL.
- * - The buffers of one call must not overlap, but that two `const` ones may be the same bytes.
- * - The library sees what it is lent as bytes, and every byte has a meaning: one that says yes or no is no where it is 0 and yes where it
- *   is anything else, and the bytes that are said to mean nothing may hold anything.
+ *   freed as soon as the call is back (but what a struct bujorelm_node points to). Calls for different boards may run at once; calls for one
+ *   board must not. Every call returns; none waits, and none calls anything outside the library, but that the line splitter calls memcpy and
+ *   memset.
+ * - All that a board has is lent, and changed in place. Of what is lent as `const` no byte is written. Nothing past a buffer's length is
+ *   read or written.
+ * - A buffer of any length is a pointer and then its length. Where the length is 0 the pointer is not used and may be NULL.
+ * - What has one size is a pointer alone: the lock memory (6 bytes), the pool (576), the reception state (64), the room for frames (ten
+ *   of 16 bytes, in every function that makes some). Such a pointer is never NULL, and leads to all of that size in every call, also in one
+ *   that is refused or does not use it: there is no length that could say that it is empty.
+ * - What is lent and not `const` must not overlap with anything else that the same call is lent. Two `const` buffers may overlap.
+ * - The library sees what it is lent as bytes, and takes every value of every byte: one that says yes or no is no where it is 0 and yes where
+ *   it is anything else, and the bytes that are said to mean nothing may hold anything. Numbers of several bytes have the least significant
+ *   byte first.
  * - Apart from pointers that do not lead to as many bytes as they should, there is no input that a function cannot take: every wrong
- *   value is refused by a number, and then nothing changes.
- *
- * The archive links into x86-64 programs (System V calling convention), and so numbers of several bytes have the least significant byte
- * first. The assertions below stop the compiler where the layout of a struct is not the library's.
+ *   value is refused, by a house number or as the function says, and then nothing changes.
  */
 #ifndef BUJORELM_H
 #define BUJORELM_H
@@ -28,9 +38,19 @@
 #include <stddef.h>
 #include <stdint.h>
 
+#if !defined(__x86_64__) || defined(_WIN32)
+#error "libdriver.a is for x86-64 with the System V calling convention only"
+#endif
+
 #ifdef __cplusplus
 extern "C" {
 #endif
+
+/* ---- Version ---- */
+
+/* The version of this header: major in the upper 16 bits, minor in the lower 16. Another major is another interface; a greater minor has
+   more, and all that a smaller one has. bujorelm_version_fits compares it with the archive's. */
+#define BUJORELM_VERSION 0x00020000u
 
 /* ---- Sizes ---- */
 
@@ -45,9 +65,14 @@ extern "C" {
 #define BUJORELM_PLACES 8u
 #define BUJORELM_POOL_SIZE 576u
 
-/* The most bytes of data in a CAN frame, and the most frames that a datagram is cut into. */
+/* The most bytes of data in a CAN frame, the most frames that a datagram is cut into, and the most that one call gives to be sent: a
+   transport reply and then a datagram. */
 #define BUJORELM_FRAME_DATA_MAX 8u
 #define BUJORELM_FRAMES_MAX 9u
+#define BUJORELM_SENT_MAX 10u
+
+/* The most bytes that one write changes. */
+#define BUJORELM_CHANGED_MAX 64u
 
 /* The most bytes that flash may have, and memory. */
 #define BUJORELM_STORE_MAX 65536u
@@ -61,8 +86,8 @@ extern "C" {
 
 /* ---- Numbers ---- */
 
-/* What came of a call: `kind` in struct bujorelm_numbers. */
-enum {
+/* What came of a call: `kind` in struct bujorelm_result. What is to be sent is among the frames that bujorelm_handle_frame gives. */
+enum bujorelm_kind {
     /* Refused because of what the caller handed in; `house` says why. Nothing is sent and nothing has changed. */
     BUJORELM_REFUSED = 0,
     /* Not a frame for this board: another header, another destination, the board's own alias as source, a header over 29 bits, data
@@ -70,24 +95,30 @@ enum {
     BUJORELM_IGNORED = 1,
     /* Joined to an unfinished datagram, or the first of one. Nothing is sent; the reception state has changed. */
     BUJORELM_JOINED = 2,
-    /* A frame that does not follow on the ones before it. Send Rejected with `code`, which is 0x2000, 0x2020 or 0x2040. The reception
+    /* A frame that does not follow on the ones before it. Rejected is sent with `code`, which is 0x2000, 0x2020 or 0x2040. The reception
        state may have changed: the source's unfinished datagram, if any, is dropped. */
     BUJORELM_TRANSPORT_REFUSAL = 3,
-    /* A finished datagram that is refused. Send Rejected with `code`, which is 0x1041, 0x1042 or 0x1080. */
+    /* A finished datagram that is refused. Rejected is sent with `code`, which is 0x1041, 0x1042 or 0x1080. Memory and lock are as they
+       were. */
     BUJORELM_REJECTED = 4,
-    /* A finished datagram that is done, with nothing more to say. Send Received OK with `flags`, which is 0x00. */
-    BUJORELM_ACCEPTED = 5,
-    /* A finished datagram that has a reply. Send Received OK with `flags`, which is 0x80 (reply pending), and then the reply datagram:
-       the first `reply_len` bytes of the reply buffer, cut into frames. A read or a write that failed is answered so as well; its
-       reply carries one of the codes 0x1081, 0x1082 and 0x1083. */
-    BUJORELM_REPLIED = 6
+    /* A write or masked write that is done. Received OK is sent with `flags`, which is 0x00. Memory has changed in `changed_len` bytes, 1
+       to 64, from index `changed_at` on, and nowhere else; what is written may also be what was there. This is the only kind that changes
+       memory. */
+    BUJORELM_WRITTEN = 5,
+    /* A finished datagram that has a reply. Received OK is sent with `flags`, which is 0x80 (reply pending), and then the reply datagram:
+       the first `reply_len` bytes of the reply buffer. A read or a write that failed is answered so as well; its reply carries one of the
+       codes 0x1081, 0x1082 and 0x1083. Only Lock/Reserve changes the lock. */
+    BUJORELM_REPLIED = 6,
+    /* Update Complete: the tool has written all that it wanted to. Received OK is sent with `flags`, which is 0x00. Memory and lock are as
+       they were. */
+    BUJORELM_UPDATE_COMPLETE = 7
 };
 
 /*
  * The house numbers: mistakes of the caller, never sent on the bus. They are tested first at each call, in the order of the numbers
  * but for B2 to B5, which are tested for one space after the other: the first space with a mistake decides.
  */
-enum {
+enum bujorelm_house {
     BUJORELM_HOUSE_NONE = 0,
     /* More than 16 spaces, memory or flash over 65,536 bytes, or the alias is not 1 to 4,095. */
     BUJORELM_HOUSE_B1 = 1,
@@ -108,13 +139,14 @@ enum {
 };
 
 /* The flags of Received OK. */
-enum {
+enum bujorelm_flags {
     BUJORELM_FLAGS_NONE = 0x00,
     BUJORELM_FLAGS_REPLY_PENDING = 0x80
 };
 
 /* The codes of OpenLCB's S-9.7.3. 0x1000 is permanent: the tool must not repeat. 0x2000 is temporary: it may. */
-enum {
+enum bujorelm_code {
+    BUJORELM_CODE_NONE = 0,
     /* In Rejected: byte 1 of the datagram is no command that the board knows. */
     BUJORELM_CODE_UNKNOWN_COMMAND = 0x1041,
     /* In Rejected: byte 0 of the datagram is not 0x20. */
@@ -124,7 +156,8 @@ enum {
     BUJORELM_CODE_INVALID_ARGUMENTS = 0x1080,
     /* In a failure reply: the space is neither described nor 0xFD, 0xFE or 0xFF. */
     BUJORELM_CODE_UNKNOWN_SPACE = 0x1081,
-    /* In a failure reply: an address outside the space, or the space is empty. */
+    /* In a failure reply: a write with any byte outside the space, a read that begins outside it, or the space is empty. A read that goes
+       past the last address is shortened and does not fail. */
     BUJORELM_CODE_OUT_OF_BOUNDS = 0x1082,
     /* In a failure reply: a write to a read-only space. */
     BUJORELM_CODE_READ_ONLY = 0x1083,
@@ -194,19 +227,46 @@ struct bujorelm_reception {
     struct bujorelm_place places[BUJORELM_PLACES];
 };
 
-/* What came of a call. A number that its kind does not name is 0. */
-struct bujorelm_numbers {
-    uint8_t kind;
-    uint8_t house;
-    uint8_t flags;
+/* What came of a call. A number that its kind does not name is 0, but for `frame_count`, which is 0 exactly where nothing is sent. */
+struct bujorelm_result {
+    enum bujorelm_kind kind;
+    /* Of Rejected: an enum bujorelm_code. */
     uint16_t code;
-    size_t reply_len;
+    /* Of BUJORELM_REFUSED: an enum bujorelm_house, for which bujorelm_house_of is there. */
+    uint8_t house;
+    /* Of Received OK: an enum bujorelm_flags. */
+    uint8_t flags;
+    /* Of BUJORELM_WRITTEN: the index in memory of the first byte that was written, and how many were, 1 to 64. */
+    uint32_t changed_at;
+    uint8_t changed_len;
+    /* Of BUJORELM_REPLIED: how many bytes of the reply buffer are the reply, 1 to 72. */
+    uint8_t reply_len;
+    /* How many frames bujorelm_handle_frame gives to be sent, 0 to 10. Always 0 from bujorelm_handle_datagram. */
+    uint8_t frame_count;
 };
 
 /* A line that was read. Where it is not `good` the frame is all zero. */
 struct bujorelm_parsed {
     bool good;
     struct bujorelm_frame frame;
+};
+
+/* The beginning of a line whose end has not come: the first `len` of `text`, kept up to one byte more than the longest good line has. All
+   zero before any input. Any bytes may be handed in: a `len` over 29 is that of a line that is too long, and `unused` means nothing; in
+   what comes back it is zero. */
+struct bujorelm_carry {
+    uint8_t len;
+    uint8_t text[29];
+    uint8_t unused[2];
+};
+
+/* A step through a chunk of input: whether a line ended, what it is, what to hand to the next step, and the index up to which the chunk is
+   read. Where no line ended `parsed` is not good and its frame is all zero. */
+struct bujorelm_line {
+    bool complete;
+    struct bujorelm_parsed parsed;
+    struct bujorelm_carry carry;
+    size_t at;
 };
 
 /* ---- The layout, held to the library's ---- */
@@ -224,6 +284,7 @@ struct bujorelm_parsed {
 BUJORELM_ASSERT(bool_is_a_byte, sizeof(bool) == 1);
 BUJORELM_ASSERT(size_t_has_8_bytes, sizeof(size_t) == 8);
 BUJORELM_ASSERT(pointers_have_8_bytes, sizeof(void *) == 8);
+BUJORELM_ASSERT(kinds_have_4_bytes, sizeof(enum bujorelm_kind) == 4);
 
 BUJORELM_SIZE(frame, 16);
 BUJORELM_AT(frame, header, 0);
@@ -250,90 +311,138 @@ BUJORELM_AT(place, unused, 4);
 BUJORELM_SIZE(reception, 64);
 BUJORELM_AT(reception, places, 0);
 
-BUJORELM_SIZE(numbers, 16);
-BUJORELM_AT(numbers, kind, 0);
-BUJORELM_AT(numbers, house, 1);
-BUJORELM_AT(numbers, flags, 2);
-BUJORELM_AT(numbers, code, 4);
-BUJORELM_AT(numbers, reply_len, 8);
+BUJORELM_SIZE(result, 16);
+BUJORELM_AT(result, kind, 0);
+BUJORELM_AT(result, code, 4);
+BUJORELM_AT(result, house, 6);
+BUJORELM_AT(result, flags, 7);
+BUJORELM_AT(result, changed_at, 8);
+BUJORELM_AT(result, changed_len, 12);
+BUJORELM_AT(result, reply_len, 13);
+BUJORELM_AT(result, frame_count, 14);
 
 BUJORELM_SIZE(parsed, 20);
 BUJORELM_AT(parsed, good, 0);
 BUJORELM_AT(parsed, frame, 4);
 
+BUJORELM_SIZE(carry, 32);
+BUJORELM_AT(carry, len, 0);
+BUJORELM_AT(carry, text, 1);
+BUJORELM_AT(carry, unused, 30);
+
+BUJORELM_SIZE(line, 64);
+BUJORELM_AT(line, complete, 0);
+BUJORELM_AT(line, parsed, 4);
+BUJORELM_AT(line, carry, 24);
+BUJORELM_AT(line, at, 56);
+
 #if defined(__BYTE_ORDER__) && defined(__ORDER_LITTLE_ENDIAN__)
 BUJORELM_ASSERT(least_significant_byte_first, __BYTE_ORDER__ == __ORDER_LITTLE_ENDIAN__);
 #endif
 
-#undef BUJORELM_SIZE
-#undef BUJORELM_AT
-#undef BUJORELM_ASSERT
+/* The macros of the assertions are used once more below, for the struct that the inline functions work on. */
 
 /* ---- Functions of the library ---- */
 
+/* The archive's version, in the form of BUJORELM_VERSION. Nothing is lent. */
+uint32_t bujorelm_version(void);
+
 /*
- * Handles a frame from the bus. Hand in every received frame with an extended header; those that are not for the board are ignored.
+ * Handles a frame from the bus, and gives the frames to be sent. Hand in every received data frame with an extended header; those that are
+ * not for the board are ignored.
  *
  * alias          the board's alias, 1 to 4,095
  * write_lengths  the Write Lengths byte that the board reports as given
  * spaces         lent; the table of spaces, looked at anew at each call
  * spaces_size    its size in bytes, 16 for each space: bujorelm_spaces_size(count). Bytes behind the last whole space are no space
  * flash          lent; what spaces in flash read from
- * memory         lent; what the other spaces read from and write to. Only a write or masked write that is done changes it
- * lock           lent; the lock memory. Only Lock/Reserve changes it
+ * memory         lent; what the other spaces read from and write to
+ * lock           lent; the lock memory
  * pool           lent, 576 bytes: the bytes of unfinished datagrams. Keep them as they are between calls
  * reception      lent; the reception state. Keep it as it is between calls
- * header         the 29-bit CAN header
+ * header         the 29-bit CAN header, without any flag that a controller or a socket puts above it
  * payload        lent; the frame's data. Any length may be handed in: a frame of over 8 bytes is ignored
- * reply          lent, at least 72 bytes. Written only where the kind is BUJORELM_REPLIED, and then only its first `reply_len` bytes, which
- *                are at most 72. It need not be cleared, and nothing of it is needed by a later call
+ * reply          lent, at least 72 bytes. It need not be cleared, and nothing of it is needed after the call: its bytes are in the frames
+ * frames         lent, room for ten. It need not be cleared
  *
- * Every kind can come back. Where it is BUJORELM_REFUSED or BUJORELM_IGNORED, every byte of the reception state, the lock, the pool, memory
- * and the reply buffer is as it was. The source to which an answer goes is the low twelve bits of the header.
+ * Comes back: every kind. frames[0] to frames[frame_count - 1] are to be sent in their order, to the alias in the low twelve bits of the
+ * header, which they carry already: none for BUJORELM_REFUSED, BUJORELM_IGNORED and BUJORELM_JOINED; Rejected for
+ * BUJORELM_TRANSPORT_REFUSAL and BUJORELM_REJECTED; Received OK for BUJORELM_WRITTEN and BUJORELM_UPDATE_COMPLETE; Received OK and then 1
+ * to 9 frames of the reply for BUJORELM_REPLIED.
+ *
+ * What never happens: a byte of memory changes for any kind but BUJORELM_WRITTEN, or outside the bytes that it names; a byte of the lock
+ * changes but by a Lock/Reserve that is replied to; a byte of the reply buffer is written for any kind but BUJORELM_REPLIED, or behind its
+ * first `reply_len`; a byte of `frames` is written behind the first `frame_count`; any byte of anything changes for BUJORELM_REFUSED or
+ * BUJORELM_IGNORED.
  */
-struct bujorelm_numbers bujorelm_handle_frame(uint16_t alias, uint8_t write_lengths, const struct bujorelm_space *spaces,
-                                              size_t spaces_size, const uint8_t *flash, size_t flash_len, uint8_t *memory,
-                                              size_t memory_len, struct bujorelm_lock *lock, uint8_t *pool,
-                                              struct bujorelm_reception *reception, uint32_t header, const uint8_t *payload,
-                                              size_t payload_len, uint8_t *reply, size_t reply_len);
+struct bujorelm_result bujorelm_handle_frame(uint16_t alias, uint8_t write_lengths, const struct bujorelm_space *spaces,
+                                             size_t spaces_size, const uint8_t *flash, size_t flash_len, uint8_t *memory,
+                                             size_t memory_len, struct bujorelm_lock *lock, uint8_t *pool,
+                                             struct bujorelm_reception *reception, uint32_t header, const uint8_t *payload,
+                                             size_t payload_len, uint8_t *reply, size_t reply_len, struct bujorelm_frame *frames);
 
 /*
- * Handles a datagram that some other transport has joined already. It needs no reception state and no pool; the rest is as in
- * bujorelm_handle_frame. The kinds that come back are BUJORELM_REFUSED (B1 to B6), BUJORELM_REJECTED, BUJORELM_ACCEPTED and
- * BUJORELM_REPLIED. A datagram of any length may be handed in: one over 72 bytes is rejected with 0x1080.
+ * Handles a datagram that some other transport has joined already. It needs no reception state, no pool and no room for frames; the rest is
+ * as in bujorelm_handle_frame, what never happens too.
+ *
+ * datagram       lent; any length may be handed in: one over 72 bytes is rejected with 0x1080
+ *
+ * Comes back: BUJORELM_REFUSED (B1 to B6), BUJORELM_REJECTED, BUJORELM_WRITTEN, BUJORELM_REPLIED or BUJORELM_UPDATE_COMPLETE, with
+ * `frame_count` 0. The answer is the caller's to send: bujorelm_rejected or bujorelm_received_ok, and the reply by bujorelm_cut.
  */
-struct bujorelm_numbers bujorelm_handle_datagram(uint16_t alias, uint8_t write_lengths, const struct bujorelm_space *spaces,
-                                                 size_t spaces_size, const uint8_t *flash, size_t flash_len, uint8_t *memory,
-                                                 size_t memory_len, struct bujorelm_lock *lock, const uint8_t *datagram,
-                                                 size_t datagram_len, uint8_t *reply, size_t reply_len);
+struct bujorelm_result bujorelm_handle_datagram(uint16_t alias, uint8_t write_lengths, const struct bujorelm_space *spaces,
+                                                size_t spaces_size, const uint8_t *flash, size_t flash_len, uint8_t *memory,
+                                                size_t memory_len, struct bujorelm_lock *lock, const uint8_t *datagram,
+                                                size_t datagram_len, uint8_t *reply, size_t reply_len);
 
-/* Cuts a datagram into the frames that take it from the source alias to the destination alias. `frames` is lent and has room for nine.
+/* Cuts a datagram into the frames that take it from the board to the tool. The datagram is lent, and so is `frames`, with room for ten.
    Returns how many were made, 1 to 9, to be sent in their order; the room behind them is left as it was. Refused, by B9, where the
    datagram has more than 72 bytes or an alias is over 4,095: then it returns 0, and `frames` is untouched. No other house number is
    tested. */
-size_t bujorelm_cut(const uint8_t *datagram, size_t datagram_len, uint16_t destination, uint16_t source, struct bujorelm_frame *frames);
+size_t bujorelm_cut(const uint8_t *datagram, size_t datagram_len, uint16_t board, uint16_t tool, struct bujorelm_frame *frames);
 
-/* Makes the frame of Received OK with its flags, from the board's alias to the tool's, and returns 1. Where an alias is over 4,095 there is
-   no such frame: then it returns 0 and `frame` is untouched. */
-size_t bujorelm_received_ok(uint16_t board, uint16_t tool, uint8_t flags, struct bujorelm_frame *frame);
+/* Makes the frame of Received OK with its flags, from the board's alias to the tool's, and returns 1. `frames` is lent, with room for ten,
+   as everywhere; what is behind the first is untouched. Where an alias is over 4,095 there is no such frame: then it returns 0 and all of
+   `frames` is untouched. It never returns anything else. */
+size_t bujorelm_received_ok(uint16_t board, uint16_t tool, uint8_t flags, struct bujorelm_frame *frames);
 
 /* The same for the frame of Rejected with its code. */
-size_t bujorelm_rejected(uint16_t board, uint16_t tool, uint16_t code, struct bujorelm_frame *frame);
+size_t bujorelm_rejected(uint16_t board, uint16_t tool, uint16_t code, struct bujorelm_frame *frames);
 
-/* Reads a GridConnect line, without its newline: `:X`, eight header digits, `N`, 0 to 16 data digits in pairs, `;`, the digits being 0-9
-   and A-F. Any other text is not good. Headers over 29 bits are good here and are ignored by bujorelm_handle_frame. */
+/* Reads a GridConnect line, which is lent without its newline: `:X`, eight header digits, `N`, 0 to 16 data digits in pairs, `;`, the
+   digits being 0-9 and A-F. Any other text of any length is not good, and its frame is all zero. Headers over 29 bits are good here and are
+   ignored by bujorelm_handle_frame. */
 struct bujorelm_parsed bujorelm_parse_line(const uint8_t *line, size_t line_len);
 
-/* Prints a frame as a GridConnect line with its newline into `out` from index `at` on, and returns the index behind it. Where the line does
-   not fit, or the frame's `len` is over 8, nothing is written and `at` is returned. No zero byte is put behind it. */
+/* Prints a frame as a GridConnect line with its newline into `out`, which is lent, from index `at` on, and returns the index behind it.
+   Where the line does not fit, or the frame's `len` is over 8, nothing is written and `at` is returned. No byte outside the line is
+   written, and no zero byte is put behind it. */
 size_t bujorelm_print_frame(struct bujorelm_frame frame, uint8_t *out, size_t out_len, size_t at);
+
+/*
+ * The line splitter: an input that comes in chunks, cut anyhow, is read line by line. Reads the chunk, which is lent, from index `from` on,
+ * up to and including the next newline or else to its end; a `from` past the end is like the end.
+ *
+ * Comes back: `complete` says whether a line ended, and then `parsed` says what it is: not good for any text that is no frame's line,
+ * however long. `carry` is to be handed to the next call, also to the first one for the next chunk; `at` is the index up to which the chunk
+ * is read, and is to be handed in as `from`. It is past `from` unless `from` was the end, so that a loop while `at` is below `chunk_len`
+ * ends.
+ *
+ * What never happens: how the input is cut into chunks changes what its lines are.
+ */
+struct bujorelm_line bujorelm_next_line(const uint8_t *chunk, size_t chunk_len, size_t from, struct bujorelm_carry carry);
+
+/* The end of the input: a last line that lacks its newline is a line, and nothing left is none. `carry` is all zero afterwards, and `at` is
+   0. */
+struct bujorelm_line bujorelm_last_line(struct bujorelm_carry carry);
 
 /* ---- Inline functions, which hand over a board that lies in one struct ---- */
 
 /*
- * A board with all that it keeps between calls. The table of spaces, `flash` and `memory` stay the caller's: they must outlive the node, at
- * the same place. The fields are open to the caller, who may read them between calls and may replace the description (as when the alias
- * changes; set the reception state to all zero then, since what is unfinished was sent to the old alias).
+ * A board with all that it keeps between calls, and with the room that a call writes its answer to: `reply` and `frames` hold it until the
+ * next call for this node. The table of spaces, `flash` and `memory` stay the caller's: they must outlive the node, at the same place. The
+ * fields are open to the caller, who may read them between calls and may replace the description (as when the alias changes; set the
+ * reception state to all zero then, since what is unfinished was sent to the old alias).
  */
 struct bujorelm_node {
     struct bujorelm_description description;
@@ -344,11 +453,66 @@ struct bujorelm_node {
     struct bujorelm_lock lock;
     struct bujorelm_reception reception;
     uint8_t pool[BUJORELM_POOL_SIZE];
+    uint8_t reply[BUJORELM_REPLY_MIN];
+    struct bujorelm_frame frames[BUJORELM_SENT_MAX];
 };
+
+BUJORELM_SIZE(description, 24);
+BUJORELM_AT(description, alias, 0);
+BUJORELM_AT(description, write_lengths, 2);
+BUJORELM_AT(description, count, 8);
+BUJORELM_AT(description, spaces, 16);
+
+BUJORELM_SIZE(node, 936);
+BUJORELM_AT(node, description, 0);
+BUJORELM_AT(node, flash, 24);
+BUJORELM_AT(node, flash_len, 32);
+BUJORELM_AT(node, memory, 40);
+BUJORELM_AT(node, memory_len, 48);
+BUJORELM_AT(node, lock, 56);
+BUJORELM_AT(node, reception, 62);
+BUJORELM_AT(node, pool, 126);
+BUJORELM_AT(node, reply, 702);
+BUJORELM_AT(node, frames, 776);
+
+#undef BUJORELM_SIZE
+#undef BUJORELM_AT
+#undef BUJORELM_ASSERT
 
 /* Takes a frame to be sent. It is called with the frames in the order in which they must go out on the bus. The frame is lent for the call
    alone. Returns false where the frame cannot be taken; the ones behind it are then not offered. */
-typedef bool bujorelm_send(void *context, const struct bujorelm_frame *frame);
+typedef bool (*bujorelm_send_function)(void *context, const struct bujorelm_frame *frame);
+
+/* Whether what was written for a header of the one version may call an archive of the other: the same major, and a minor that is not
+   smaller. (The difference is at most what is left of the minor's range.) */
+static inline bool bujorelm_versions_fit(uint32_t header, uint32_t archive)
+{
+    return archive - header <= 0xFFFFu - (header & 0xFFFFu);
+}
+
+/* Whether the archive that the program is linked with fits this header: a test for the start of the firmware, before any other call. */
+static inline bool bujorelm_version_fits(void)
+{
+    return bujorelm_versions_fit(BUJORELM_VERSION, bujorelm_version());
+}
+
+/* The house number of a result, for a `switch`. */
+static inline enum bujorelm_house bujorelm_house_of(struct bujorelm_result result)
+{
+    return (enum bujorelm_house)result.house;
+}
+
+/* The code of a result, for a `switch`. */
+static inline enum bujorelm_code bujorelm_code_of(struct bujorelm_result result)
+{
+    return (enum bujorelm_code)result.code;
+}
+
+/* The source alias of a header. */
+static inline uint16_t bujorelm_source_of(uint32_t header)
+{
+    return header & 0xFFFu;
+}
 
 /* The size in bytes of a table of so many spaces, for a call's `spaces_size`. Any count over 16 gives the size of 17 spaces, which B1
    refuses without a look at the table: 16 times a very large count would wrap, and could come out as the size of a good table. */
@@ -360,7 +524,7 @@ static inline size_t bujorelm_spaces_size(size_t count)
 }
 
 /* A fresh node: lock memory zero, nothing unfinished. The description is copied, but for the table of spaces; flash and memory are not.
-   Nothing is tested here: a bad description is refused at the first call. */
+   Nothing is tested here: a bad description is refused at the first call. What the reply buffer and the room for frames hold is left. */
 static inline void bujorelm_node_start(struct bujorelm_node *node, const struct bujorelm_description *description,
                                        const uint8_t *flash, size_t flash_len, uint8_t *memory, size_t memory_len)
 {
@@ -383,90 +547,60 @@ static inline void bujorelm_node_start(struct bujorelm_node *node, const struct 
     }
 }
 
-/* bujorelm_handle_frame for a node. */
-static inline struct bujorelm_numbers bujorelm_node_handle_frame(struct bujorelm_node *node, uint32_t header, const uint8_t *payload,
-                                                                 size_t payload_len, uint8_t *reply, size_t reply_len)
+/* bujorelm_handle_frame for a node. The frames to be sent are node->frames[0] to node->frames[frame_count - 1]. */
+static inline struct bujorelm_result bujorelm_node_handle_frame(struct bujorelm_node *node, uint32_t header, const uint8_t *payload,
+                                                                size_t payload_len)
 {
     return bujorelm_handle_frame(node->description.alias, node->description.write_lengths, node->description.spaces,
                                  bujorelm_spaces_size(node->description.count), node->flash, node->flash_len, node->memory,
-                                 node->memory_len, &node->lock, node->pool, &node->reception, header, payload, payload_len, reply,
-                                 reply_len);
+                                 node->memory_len, &node->lock, node->pool, &node->reception, header, payload, payload_len, node->reply,
+                                 sizeof node->reply, node->frames);
 }
 
-/* bujorelm_handle_datagram for a node. */
-static inline struct bujorelm_numbers bujorelm_node_handle_datagram(struct bujorelm_node *node, const uint8_t *datagram,
-                                                                    size_t datagram_len, uint8_t *reply, size_t reply_len)
+/* bujorelm_handle_datagram for a node. The reply is the first `reply_len` bytes of node->reply. */
+static inline struct bujorelm_result bujorelm_node_handle_datagram(struct bujorelm_node *node, const uint8_t *datagram,
+                                                                   size_t datagram_len)
 {
     return bujorelm_handle_datagram(node->description.alias, node->description.write_lengths, node->description.spaces,
                                     bujorelm_spaces_size(node->description.count), node->flash, node->flash_len, node->memory,
-                                    node->memory_len, &node->lock, datagram, datagram_len, reply, reply_len);
+                                    node->memory_len, &node->lock, datagram, datagram_len, node->reply, sizeof node->reply);
 }
 
 /* The first house number that applies to the node as it stands, or BUJORELM_HOUSE_NONE: a test for the start of the firmware, so that a
    bad description shows before the first frame. It changes nothing. */
-static inline uint8_t bujorelm_node_check(struct bujorelm_node *node)
+static inline enum bujorelm_house bujorelm_node_check(const struct bujorelm_node *node)
 {
-    uint8_t reply[BUJORELM_REPLY_MIN];
+    /* Header 0 is no datagram frame: a good node ignores it and a bad one is refused, so that nothing is written through this pointer. */
+    struct bujorelm_node *const same = (struct bujorelm_node *)(uintptr_t)node;
 
-    /* Header 0 is no datagram frame, so a good node ignores it. */
-    return bujorelm_node_handle_frame(node, 0, NULL, 0, reply, sizeof reply).house;
+    return bujorelm_house_of(bujorelm_node_handle_frame(same, 0, NULL, 0));
 }
 
-/* The source alias of a header. */
-static inline uint16_t bujorelm_source_of(uint32_t header)
+/* Hands frames to `send`, one after the other. Returns false where `send` did. */
+static inline bool bujorelm_send_frames(const struct bujorelm_frame *frames, size_t count, bujorelm_send_function send, void *context)
 {
-    return header & 0xFFFu;
-}
-
-/* Hands the frames of an answer to `send`: the transport reply first, then those of the reply datagram, which is the first `reply_len` bytes
-   of `reply`. Of a kind that is not answered, none. Returns false where `send` did, or where a frame cannot be made because an alias is
-   over 4,095. */
-static inline bool bujorelm_send_answer(uint16_t board, uint16_t tool, const struct bujorelm_numbers *answer, const uint8_t *reply,
-                                        bujorelm_send *send, void *context)
-{
-    struct bujorelm_frame frames[BUJORELM_FRAMES_MAX];
-    size_t count;
     size_t i;
 
-    switch (answer->kind) {
-    case BUJORELM_TRANSPORT_REFUSAL:
-    case BUJORELM_REJECTED:
-        count = bujorelm_rejected(board, tool, answer->code, frames);
-        break;
-    case BUJORELM_ACCEPTED:
-    case BUJORELM_REPLIED:
-        count = bujorelm_received_ok(board, tool, answer->flags, frames);
-        break;
-    default:
-        return true;
-    }
-    if (count == 0 || !send(context, frames)) {
-        return false;
-    }
-    if (answer->kind != BUJORELM_REPLIED) {
-        return true;
-    }
-    count = bujorelm_cut(reply, answer->reply_len, tool, board, frames);
     for (i = 0; i < count; i++) {
         if (!send(context, &frames[i])) {
             return false;
         }
     }
-    return count != 0;
+    return true;
 }
 
-/* A received frame from its arrival to the frames that answer it. What came of it is stored to `answer`, which may be NULL. Returns what
-   bujorelm_send_answer does. */
+/* A received frame from its arrival until the frames that answer it are sent. What came of it is stored to `result`, which may be NULL,
+   before the first frame is sent. Returns what bujorelm_send_frames does. A driver that has to store what was written before the tool hears
+   of it calls bujorelm_node_handle_frame, stores, and then calls bujorelm_send_frames. */
 static inline bool bujorelm_node_receive(struct bujorelm_node *node, uint32_t header, const uint8_t *payload, size_t payload_len,
-                                         bujorelm_send *send, void *context, struct bujorelm_numbers *answer)
+                                         bujorelm_send_function send, void *context, struct bujorelm_result *result)
 {
-    uint8_t reply[BUJORELM_REPLY_MIN];
-    const struct bujorelm_numbers done = bujorelm_node_handle_frame(node, header, payload, payload_len, reply, sizeof reply);
+    const struct bujorelm_result done = bujorelm_node_handle_frame(node, header, payload, payload_len);
 
-    if (answer != NULL) {
-        *answer = done;
+    if (result != NULL) {
+        *result = done;
     }
-    return bujorelm_send_answer(node->description.alias, bujorelm_source_of(header), &done, reply, send, context);
+    return bujorelm_send_frames(node->frames, done.frame_count, send, context);
 }
 
 #ifdef __cplusplus

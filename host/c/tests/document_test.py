@@ -1,11 +1,12 @@
-"""Holds docs/DRIVER.md to what it speaks of: its program is the example, it is built by the line that the document gives, and every output
-and figure in it is what comes out.
+"""Holds docs/DRIVER.md to what it speaks of: its program is the example and is built by the line that the document gives, its other pieces of
+C stand so in programs that are compiled and tested, and every output and figure in it is what comes out.
 
 Usage: python3 document_test.py DRIVER.md ROOT OUT
 """
 
 import os
 import re
+import shutil
 import subprocess
 import sys
 import tempfile
@@ -24,6 +25,39 @@ def output(words, cwd=None):
     return done.stdout
 
 
+def source(name):
+    with open(os.path.join(ROOT, name), encoding="utf-8") as file:
+        return file.read()
+
+
+def unwrapped(text):
+    return " ".join(text.split())
+
+
+def check_archive(text):
+    """What the document says of the archive and of the toolchain, which the header says too."""
+    archive = os.path.join(ROOT, "target/staticlib/libdriver.a")
+    toolchain = re.search(r"\*\*Toolchain:\*\* ([\w-]+), logic (\w+) ", text).groups()
+    expect(f"Toolchain: {toolchain[0]}, logic {toolchain[1]} " in source("host/c/include/bujorelm.h"), True, "the header's toolchain")
+    if shutil.which("rt"):
+        expect(f"{toolchain[0]} logic {toolchain[1]}\n", output(["rt", "version"]), "the toolchain")
+    rows = [row.split() for row in output(["size", archive]).splitlines()[1:]]
+    code = round(sum(int(row[0]) for row in rows) / 1000)
+    expect(int(re.search(r"which has (\d+) KB of code", text).group(1)), code, "the archive's KB of code and constants")
+    expect([row[1:3] for row in rows], [["0", "0"]] * len(rows), "the archive's data")
+    code = output(["objdump", "-d", archive])
+    expect(("%xmm" in code, "%ymm" in code, "%zmm" in code), (True, False, False), "the archive's vector registers")
+
+
+def check_host(text):
+    """The bounds of the host."""
+    host = source("host/c/host.c")
+    for bound in ("CONNECTIONS_MAX 64u", "OUTPUT_MAX (1024u * 1024u)", "WAIT_MAX 5000"):
+        expect(f"#define {bound}\n" in host, True, f"the host's {bound}")
+    for words in ("up to 64 tools", "1 MiB waits", "for five seconds", "five seconds after the end"):
+        expect(words in unwrapped(text), True, f"the words {words!r}")
+
+
 def main():
     with open(DOCUMENT, encoding="utf-8") as file:
         text = file.read()
@@ -31,11 +65,14 @@ def main():
     shell = [block for kind, block in blocks if kind == "sh"]
     program = [block for kind, block in blocks if kind == "c"]
     outputs = [block for kind, block in blocks if kind == ""]
-    expect((len(shell), len(program), len(outputs)), (3, 1, 2), "the blocks of the document")
+    expect((len(shell), len(program), len(outputs)), (3, 3, 2), "the blocks of the document")
     expect(shell[0], "rt staticlib driver\n", "the line that builds the library")
 
-    with open(os.path.join(ROOT, "host/c/example/minimal.c"), encoding="utf-8") as file:
-        expect(program[0], file.read(), "the program in the document")
+    expect(program[0], source("host/c/example/minimal.c"), "the program in the document")
+    expect(program[1] in source("host/c/example/socketcan.c"), True, "the header of a frame from SocketCAN, as in the example")
+    expect(program[2] in source("host/c/host.c"), True, "the use of the line splitter, as in the host")
+    check_archive(text)
+    check_host(text)
     for name in ("example", "example-sanitized"):
         expect(output([os.path.join(OUT, name)]), outputs[0], f"what {name} prints")
 
@@ -48,8 +85,7 @@ def main():
         expect(output(["sh", "-eu", "-c", shell[2]], cwd=folder), outputs[1], "what the host prints")
 
     # The figures of the stack. They differ a little between compilers, so only the calls and the bound must agree.
-    with open(os.path.join(ROOT, "host/c/tests/stack.c"), encoding="utf-8") as file:
-        test = file.read()
+    test = source("host/c/tests/stack.c")
     calls = re.findall(r'^    \{"(\w+)", call_\w+\},$', test, re.M)
     bound = int(re.search(r"^#define BOUND (\d+)u$", test, re.M).group(1))
     rows = re.findall(r"^\| `(bujorelm_\w+)` \|((?: [\d,]+ \|){5})$", text, re.M)
@@ -57,7 +93,8 @@ def main():
     for name, row in rows:
         figures = [int(figure.replace(",", "")) for figure in re.findall(r"[\d,]+", row)]
         expect(max(figures) <= bound, True, f"the figures of {name} within the bound")
-    expect(f"fails above {bound:,} bytes" in text, True, "the bound in the document")
+    words = f"fails above {bound:,} bytes"
+    expect(words in unwrapped(text), True, f"the words {words!r}")
     print("document_test.py: docs/DRIVER.md holds")
 
 

@@ -14,6 +14,7 @@ import socket
 import struct
 import subprocess
 import sys
+import tempfile
 import termios
 import time
 
@@ -22,6 +23,11 @@ STEP = int(sys.argv[2]) if len(sys.argv) > 2 else 1
 
 # How long anything that must happen may take, in seconds.
 PATIENCE = 20
+
+# The bounds of the host: tools at once, bytes that wait for one, and for how many seconds one is waited for.
+CONNECTIONS_MAX = 64
+OUTPUT_MAX = 1 << 20
+WAIT_MAX = 5
 
 SESSION_IN = b"""\
 :X1A22B123N200100000002ABCD;
@@ -196,36 +202,65 @@ def test_nonblocking():
 
 
 class Hub:
-    """A host that serves a port."""
+    """A host that serves a port. With `small` the system keeps little for a tool itself, so that what waits, waits in the host."""
 
-    def __init__(self, port=0, descriptors=None):
+    def __init__(self, port=0, descriptors=None, small=False):
         def limit():
             if descriptors is not None:
                 resource.setrlimit(resource.RLIMIT_NOFILE, (descriptors, descriptors))
 
-        self.process = subprocess.Popen([HOST, "--port", str(port)], stdout=subprocess.PIPE, preexec_fn=limit)
+        words = [HOST, "--port", str(port)] + (["--send-buffer", "4096"] if small else [])
+        self.small = small
+        self.log_file = tempfile.TemporaryFile()
+        self.process = subprocess.Popen(words, stdout=subprocess.PIPE, stderr=self.log_file, preexec_fn=limit)
         self.port = int(self.process.stdout.readline())
 
     def __enter__(self):
         return self
 
-    def __exit__(self, *_):
+    def __exit__(self, kind, *_):
         alive = self.process.poll() is None
         self.process.terminate()
         self.process.wait()
         self.process.stdout.close()
         if not alive:
-            sys.exit(f"host_test.py: the host ended with {self.process.returncode}")
+            sys.exit(f"host_test.py: the host ended with {self.process.returncode}: {self.log()!r}")
+        # Whatever it has to say is about a connection that it closed.
+        if kind is None:
+            odd = [line for line in self.log().splitlines() if not line.startswith(b"host: a connection is closed: ")]
+            expect(odd, [], "what the host says")
+        self.log_file.close()
+
+    def log(self):
+        self.log_file.seek(0)
+        return self.log_file.read()
 
     def tool(self):
-        return Tool(self.port)
+        return Tool(self.port, small=self.small)
+
+    def connections(self):
+        """How many connections the host has open."""
+        folder = f"/proc/{self.process.pid}/fd"
+        links = [os.readlink(f"{folder}/{name}") for name in os.listdir(folder)]
+        return len([link for link in links if link.startswith("socket:")]) - 1
+
+    def wait_for_connections(self, count, seconds, what):
+        limit = time.monotonic() + seconds
+        while self.connections() != count:
+            if time.monotonic() > limit:
+                sys.exit(f"host_test.py: {what}: {self.connections()} connections, wanted {count}")
+            time.sleep(0.01)
 
 
 class Tool:
     """A connected tool. It is on the bus only when the host has taken the connection, so it asks for an answer first."""
 
-    def __init__(self, port, on_bus=True):
-        self.socket = socket.create_connection(("127.0.0.1", port), PATIENCE)
+    def __init__(self, port, on_bus=True, small=False):
+        self.socket = socket.socket()
+        self.socket.settimeout(PATIENCE)
+        if small:
+            self.socket.setsockopt(socket.SOL_SOCKET, socket.SO_RCVBUF, 8192)
+        self.socket.connect(("127.0.0.1", port))
         self.got = b""
         if on_bus:
             self.send(b"hello\n")
@@ -242,6 +277,17 @@ class Tool:
             self.got += part
         line, _, self.got = self.got.partition(b"\n")
         return line + b"\n"
+
+    def rest(self):
+        """All that comes until the host closes."""
+        parts = [self.got]
+        while parts[-1] or len(parts) == 1:
+            try:
+                parts.append(self.socket.recv(65536))
+            except ConnectionResetError:
+                break
+        self.got = b""
+        return b"".join(parts)
 
     def expect(self, wanted, what):
         for line in wanted.splitlines(keepends=True):
@@ -276,6 +322,12 @@ def test_two_tools():
         one.send(b":X195B4123N0101010101010101;\n")
         two.expect(b":X195B4123N0101010101010101;\n", "an event")
         one.expect_nothing("its own event")
+        # The greatest header on a bus, and longer ones, which are on none.
+        one.send(b":X1FFFFFFFN;\n")
+        two.expect(b":X1FFFFFFFN;\n", "the greatest header")
+        one.send(b":X20000000N;\n:X3A22B123N2080;\n:X5A22B123N2080;\n:X9A22B123N2080;\n:XFFFFFFFFN0102;\n?\n:X1A22B123;\n")
+        one.expect(b"?\n?\n", "headers over 29 bits are not answered")
+        two.expect_nothing("headers over 29 bits")
         # A line in pieces, while the other tool sends as well.
         one.send(b":X1A22B123")
         two.send(b":X1A22B456N20A8;\n")
@@ -338,37 +390,122 @@ def test_many_tools():
             tool.close()
 
 
+EVENT = b":X195B4123N0101010101010101;\n"
+LONG_READ = b":X1A22B123N20420000000040;\n"
+
+
 def test_slow_tool():
-    with Hub() as hub:
-        slow = hub.tool()
-        busy = hub.tool()
-        event = b":X195B4123N0101010101010101;\n"
-        # Half a million bytes wait for a tool that comes to them later.
-        busy.send(event * 17000)
-        busy.send(OPTIONS)
-        busy.expect(OPTIONS_OUT, "the answer while another tool takes nothing")
-        slow.expect(event * 17000 + OPTIONS + OPTIONS_OUT, "what waited")
-        limit = time.monotonic() + PATIENCE
-        dropped = False
-        slow.socket.setblocking(False)
-        # More than that does not wait. The system's own buffers take a few million bytes before the host's fill.
-        while not dropped:
-            if time.monotonic() > limit:
-                sys.exit("host_test.py: a tool that takes nothing is not dropped")
-            busy.send(event * 10000)
+    """Up to a bound the host keeps what a tool does not take, byte by byte; then it drops the tool and serves the others."""
+    with Hub(small=True) as hub:
+        slow, busy = hub.tool(), hub.tool()
+        # The system itself keeps some 20 thousand bytes.
+        for share, kept in ((0.97, True), (0.5, True), (1.05, False)):
+            events = [b":X195B4123N%016X;\n" % n for n in range(int(share * OUTPUT_MAX) // len(EVENT))]
+            begun = time.monotonic()
+            busy.send(b"".join(events))
             busy.send(OPTIONS)
-            busy.expect(OPTIONS_OUT, "the answer to a busy tool")
-            try:
-                # Nothing is read: a byte is sent to learn whether the connection still stands.
-                slow.socket.send(b"\n")
-            except BlockingIOError:
-                pass
-            except (ConnectionResetError, BrokenPipeError):
-                dropped = True
+            busy.expect(OPTIONS_OUT, "the answer while another tool takes nothing")
+            expect(time.monotonic() - begun < WAIT_MAX - 1, True, "fast enough for this test")
+            if kept:
+                slow.expect(b"".join(events) + OPTIONS + OPTIONS_OUT, "what waited")
+                expect(hub.log(), b"", "what the host says of a slow tool")
+        hub.wait_for_connections(1, 1, "a tool that takes nothing")
+        expect(b"too much waits" in hub.log(), True, "what the host says of a tool that is dropped")
+        # What it gets is the beginning of what was sent.
+        got = slow.rest()
+        expect(b"".join(events).startswith(got), True, "what a dropped tool gets")
         busy.send(OPTIONS)
         busy.expect(OPTIONS_OUT, "the answer after the drop")
         busy.close()
         slow.close()
+
+
+def test_ended_tool():
+    """A tool that has ended its input is sent the answers to its own frames, to the last byte, and no frame of others."""
+    count = 250
+    with Hub(small=True) as hub:
+        other = hub.tool()
+        for late in (False, True):
+            ended = hub.tool()
+            # Its answers are more than the system keeps. The last line ends with the input, so that the other tool sees that end.
+            ended.send(LONG_READ * count + b":X1A22B123N20A8;")
+            wanted = run(LONG_READ * count + b":X1A22B123N20A8;")
+            ended.socket.shutdown(socket.SHUT_WR)
+            while other.line() != b":X19A2822BN012300;\n":
+                pass
+            other.send(EVENT * 10 + OPTIONS)
+            other.expect(OPTIONS_OUT, "the answer while another tool has ended")
+            if late:
+                time.sleep(WAIT_MAX / 2)
+            expect(ended.rest(), wanted, "what a tool gets that has ended its input")
+            ended.close()
+            hub.wait_for_connections(1, 1, "a tool that has ended and taken all")
+        other.close()
+        expect(hub.log(), b"", "what the host says of a tool that has ended")
+
+
+# A tool that asks, ends its input or does not, and takes so many bytes twice a second, and why it is closed.
+WAITED_FOR = (
+    ("nothing to take", 0, False, 0, None),
+    ("takes nothing", 250, False, 0, b"it takes nothing"),
+    ("takes slowly", 1000, False, 4096, None),
+    ("ended, takes nothing", 250, True, 0, b"since its input ended"),
+    ("ended, takes slowly", 250, True, 2048, b"since its input ended"),
+    # Too much waits for it to be read from, so that its end is not seen.
+    ("ended unseen, takes nothing", 1000, True, 0, b"it takes nothing"),
+)
+
+
+def test_waited_for():
+    """No tool is waited for without an end, and none is closed that has nothing to take or takes it slowly."""
+    hubs = [Hub(small=True) for _ in WAITED_FOR]
+    tools = [hub.tool() for hub in hubs]
+    begun = time.monotonic()
+    for tool, (_, count, ends, _, _) in zip(tools, WAITED_FOR):
+        tool.send(LONG_READ * count)
+        if ends:
+            tool.socket.shutdown(socket.SHUT_WR)
+    for turn in range(2 * WAIT_MAX + 4):
+        time.sleep(max(0, begun + turn / 2 - time.monotonic()))
+        for hub, tool, (word, _, _, taken, _) in zip(hubs, tools, WAITED_FOR):
+            state = (hub.connections(), hub.log())
+            # The machine may be busy: what counts is when this was seen, not when it was to be.
+            if time.monotonic() - begun < WAIT_MAX:
+                expect(state, (1, b""), f"before its time is up: {word}")
+                if taken != 0:
+                    tool.socket.recv(taken)
+    for hub, tool, (word, _, _, _, why) in zip(hubs, tools, WAITED_FOR):
+        with hub:
+            if why is not None:
+                hub.wait_for_connections(0, 0.5, f"the connection: {word}")
+                expect(why in hub.log(), True, f"why it is closed: {word}")
+            else:
+                expect((hub.connections(), hub.log()), (1, b""), f"the connection: {word}")
+                tool.send(b":X1A22B777N20A8;\n")
+                while tool.line() != b":X19A2822BN077700;\n":
+                    pass
+            tool.close()
+
+
+def test_too_many_tools():
+    """A connection over the limit is closed at once and harms nobody; a tool that goes makes room."""
+    with Hub() as hub:
+        tools = [hub.tool() for _ in range(CONNECTIONS_MAX)]
+        for turn in range(3):
+            over = Tool(hub.port, on_bus=False)
+            over.socket.settimeout(1)
+            expect(over.rest(), b"", "what a connection over the limit gets")
+            over.close()
+            expect(hub.log().count(b"there are 64 already\n"), turn + 1, "the lines about connections over the limit")
+        expect(hub.connections(), CONNECTIONS_MAX, "the connections at the limit")
+        tools[0].send(OPTIONS)
+        tools[0].expect(OPTIONS_OUT, "the answer to the first")
+        tools[-1].expect(OPTIONS + OPTIONS_OUT, "the view of the last")
+        tools.pop(5).close()
+        hub.wait_for_connections(CONNECTIONS_MAX - 1, 1, "a tool that goes")
+        tools.append(hub.tool())
+        for tool in tools:
+            tool.close()
 
 
 def test_asks_faster_than_it_listens():
@@ -377,8 +514,8 @@ def test_asks_faster_than_it_listens():
         tool = hub.tool()
         # More answers than the system's own buffers take.
         count = 60000
-        text = b":X1A22B123N20420000000040;\n" * count
-        wanted = len(run(b":X1A22B123N20420000000040;\n")) * count
+        text = LONG_READ * count
+        wanted = len(run(LONG_READ)) * count
         tool.socket.setblocking(False)
         at = 0
         got = len(tool.got)
@@ -450,7 +587,9 @@ def test_no_descriptors():
 
 
 def test_usage():
-    for words in (["--port"], ["--port", ""], ["--port", "-1"], ["--port", "65536"], ["--port", "1x"], ["--port", "x"], ["x"], ["x", "1"]):
+    buffer = ["--port", "0", "--send-buffer"]
+    more = (buffer, [*buffer, ""], [*buffer, "-1"], [*buffer, "1048577"], [*buffer, "1x"], ["--port", "0", "x", "1"], [*buffer, "1", "x"])
+    for words in (["--port"], ["--port", ""], ["--port", "-1"], ["--port", "65536"], ["--port", "1x"], ["--port", "x"], ["x"], ["x", "1"], *more):
         done = subprocess.run([HOST, *words], stdin=subprocess.DEVNULL, capture_output=True, timeout=PATIENCE, check=False)
         expect((done.returncode, done.stdout), (2, b""), f"the status for {words}")
     with Hub() as hub:
@@ -472,6 +611,9 @@ TESTS = (
     test_two_tools,
     test_many_tools,
     test_slow_tool,
+    test_ended_tool,
+    test_waited_for,
+    test_too_many_tools,
     test_asks_faster_than_it_listens,
     test_rude_tools,
     test_no_descriptors,

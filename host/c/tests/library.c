@@ -1,7 +1,8 @@
 /*
  * Tests of the library through its C interface: document 01's session and whole datagrams, every house number and transport refusal, the
- * bounds of every lent buffer, every value of the bytes that say yes or no and of those that mean nothing, the GridConnect functions, the
- * inline functions of the header, and pseudo-random calls.
+ * bounds of every lent buffer, which bytes a write changes, the frames that are given to be sent, every value of the bytes that say yes or
+ * no and of those that mean nothing, the GridConnect functions and the line splitter, the inline functions of the header, and pseudo-random
+ * calls.
  *
  * Usage: library [how many pseudo-random frames]
  */
@@ -39,6 +40,7 @@ struct board {
     struct guarded flash;
     struct guarded memory;
     struct guarded reply;
+    struct guarded frames;
 };
 
 static void board_new(struct board *b, const struct draft *draft, size_t flash_len, size_t memory_len, size_t reply_len)
@@ -54,6 +56,7 @@ static void board_new(struct board *b, const struct draft *draft, size_t flash_l
     b->flash = guarded_new(flash_len, at_start);
     b->memory = guarded_new(memory_len, at_start);
     b->reply = guarded_new(reply_len, at_start);
+    b->frames = guarded_new(BUJORELM_SENT_MAX * sizeof(struct bujorelm_frame), at_start);
     memcpy(b->table.bytes, draft->spaces, table_len);
     guarded_read_only(&b->table);
     memset(b->reply.bytes, UNTOUCHED, reply_len);
@@ -78,6 +81,7 @@ static void board_free(struct board *b)
     guarded_free(&b->flash);
     guarded_free(&b->memory);
     guarded_free(&b->reply);
+    guarded_free(&b->frames);
 }
 
 static bool is_untouched(const uint8_t *bytes, size_t from, size_t end)
@@ -90,23 +94,49 @@ static bool is_untouched(const uint8_t *bytes, size_t from, size_t end)
     return true;
 }
 
-/* Whether the numbers are just those that the kind names. Padding is not compared. */
-static bool is_answer(struct bujorelm_numbers a, uint8_t kind, uint8_t house, uint8_t flags, uint16_t code, size_t reply_len)
+/* Whether two stretches of bytes are the same but for `len` bytes from index `at` on. */
+static bool is_same_outside(const uint8_t *a, const uint8_t *b, size_t end, size_t at, size_t len)
 {
-    return a.kind == kind && a.house == house && a.flags == flags && a.code == code && a.reply_len == reply_len;
+    return at <= end && len <= end - at && memcmp(a, b, at) == 0 && memcmp(a + at + len, b + at + len, end - at - len) == 0;
 }
 
-static bool is_house(struct bujorelm_numbers a, uint8_t house)
+/* Whether the numbers are just those that the kind names, of a kind that changes no memory. The number of frames is looked at elsewhere, and
+   padding is not compared. */
+static bool is_answer(struct bujorelm_result a, enum bujorelm_kind kind, uint8_t house, uint8_t flags, uint16_t code, size_t reply_len)
+{
+    return a.kind == kind && a.house == house && a.flags == flags && a.code == code && a.reply_len == reply_len && a.changed_at == 0 &&
+           a.changed_len == 0;
+}
+
+static bool is_written(struct bujorelm_result a, size_t at, size_t len)
+{
+    return a.kind == BUJORELM_WRITTEN && a.house == 0 && a.flags == 0 && a.code == 0 && a.reply_len == 0 && a.changed_at == at &&
+           a.changed_len == len;
+}
+
+static bool is_update_complete(struct bujorelm_result a)
+{
+    return is_answer(a, BUJORELM_UPDATE_COMPLETE, 0, 0, 0, 0);
+}
+
+/* Whether two results are the same but for the number of frames, which a whole datagram has none of. */
+static bool same_result(struct bujorelm_result a, struct bujorelm_result b)
+{
+    return a.kind == b.kind && a.house == b.house && a.flags == b.flags && a.code == b.code && a.reply_len == b.reply_len &&
+           a.changed_at == b.changed_at && a.changed_len == b.changed_len;
+}
+
+static bool is_house(struct bujorelm_result a, uint8_t house)
 {
     return is_answer(a, BUJORELM_REFUSED, house, 0, 0, 0);
 }
 
-static bool is_refusal(struct bujorelm_numbers answer, uint16_t code)
+static bool is_refusal(struct bujorelm_result answer, uint16_t code)
 {
     return is_answer(answer, BUJORELM_TRANSPORT_REFUSAL, 0, 0, code, 0);
 }
 
-static bool is_joined(struct bujorelm_numbers answer)
+static bool is_joined(struct bujorelm_result answer)
 {
     return is_answer(answer, BUJORELM_JOINED, 0, 0, 0, 0);
 }
@@ -176,21 +206,110 @@ static uint32_t header_of(uint32_t top, uint32_t destination, uint32_t source)
 
 enum { SINGLE = 0x1A, FIRST = 0x1B, MIDDLE = 0x1C, LAST = 0x1D };
 
-/* A frame to a board, its data from a buffer of its own with a guard behind it. */
-static struct bujorelm_numbers feed(struct board *b, uint32_t header, const uint8_t *data, size_t len)
+static struct bujorelm_frame *frames_in(const struct guarded *g)
+{
+    return (struct bujorelm_frame *)(void *)g->bytes;
+}
+
+static struct bujorelm_frame transport_frame(uint32_t sort, uint16_t board, uint32_t tool, size_t len, unsigned last)
+{
+    struct bujorelm_frame f;
+
+    memset(&f, 0, sizeof f);
+    f.header = sort << 12 | board;
+    f.len = (uint32_t)len;
+    f.bytes[0] = (uint8_t)(tool >> 8);
+    f.bytes[1] = (uint8_t)tool;
+    f.bytes[2] = (uint8_t)(len == 4 ? last >> 8 : last);
+    f.bytes[3] = (uint8_t)(len == 4 ? last : 0);
+    return f;
+}
+
+/* The frames that go with a result, made here and not by the library: the transport reply, and then the reply as document 01 has it cut. */
+static size_t frames_for(struct bujorelm_result a, uint16_t board, uint32_t tool, const uint8_t *reply, struct bujorelm_frame *frames)
+{
+    size_t count = 1;
+
+    switch (a.kind) {
+    case BUJORELM_TRANSPORT_REFUSAL:
+    case BUJORELM_REJECTED:
+        frames[0] = transport_frame(0x19A48, board, tool, 4, a.code);
+        return 1;
+    case BUJORELM_WRITTEN:
+    case BUJORELM_UPDATE_COMPLETE:
+        frames[0] = transport_frame(0x19A28, board, tool, 3, 0x00);
+        return 1;
+    case BUJORELM_REPLIED:
+        frames[0] = transport_frame(0x19A28, board, tool, 3, 0x80);
+        break;
+    default:
+        return 0;
+    }
+    for (size_t at = 0; at < a.reply_len; at += 8) {
+        const size_t len = a.reply_len - at < 8 ? a.reply_len - at : 8u;
+        const bool last = at + 8 >= a.reply_len;
+        struct bujorelm_frame *const f = &frames[count++];
+
+        memset(f, 0, sizeof *f);
+        f->header = header_of(at == 0 ? (last ? SINGLE : FIRST) : (last ? LAST : MIDDLE), tool, board);
+        f->len = (uint32_t)len;
+        memcpy(f->bytes, reply + at, len);
+    }
+    return count;
+}
+
+/* Whether the room for frames holds those that go with the result, and is untouched behind them. */
+static bool gives_frames(const struct guarded *room, struct bujorelm_result a, uint16_t board, uint32_t header, const uint8_t *reply)
+{
+    struct bujorelm_frame expected[BUJORELM_SENT_MAX];
+
+    memset(expected, UNTOUCHED, sizeof expected);
+    return a.frame_count == frames_for(a, board, header & 0xFFF, reply, expected) && room->len == sizeof expected &&
+           memcmp(room->bytes, expected, sizeof expected) == 0;
+}
+
+/* A frame to a board, whose answer goes to lent buffers between guards. */
+static struct bujorelm_result call_frame(struct board *b, uint32_t header, const uint8_t *data, size_t len)
+{
+    struct bujorelm_node *const n = &b->node;
+    struct bujorelm_result answer;
+
+    memset(b->frames.bytes, UNTOUCHED, b->frames.len);
+    answer = bujorelm_handle_frame(n->description.alias, n->description.write_lengths, n->description.spaces,
+                                   bujorelm_spaces_size(n->description.count), n->flash, n->flash_len, n->memory, n->memory_len, &n->lock,
+                                   n->pool, &n->reception, header, data, len, b->reply.bytes, b->reply.len, frames_in(&b->frames));
+    CHECK(gives_frames(&b->frames, answer, n->description.alias, header, b->reply.bytes));
+    return answer;
+}
+
+/* The same, its data from a buffer of its own with a guard behind it. */
+static struct bujorelm_result feed(struct board *b, uint32_t header, const uint8_t *data, size_t len)
 {
     struct guarded payload = guarded_new(len, false);
-    struct bujorelm_numbers answer;
+    struct bujorelm_result answer;
 
     if (len != 0) {
         memcpy(payload.bytes, data, len);
     }
-    answer = bujorelm_node_handle_frame(&b->node, header, payload.bytes, len, b->reply.bytes, b->reply.len);
+    answer = call_frame(b, header, payload.bytes, len);
     guarded_free(&payload);
     return answer;
 }
 
-static struct bujorelm_numbers feed_hex(struct board *b, uint32_t top, uint32_t source, const char *hex)
+/* A whole datagram to a board. */
+static struct bujorelm_result hand_over(struct board *b, const uint8_t *datagram, size_t len)
+{
+    struct bujorelm_node *const n = &b->node;
+    const struct bujorelm_result answer =
+        bujorelm_handle_datagram(n->description.alias, n->description.write_lengths, n->description.spaces,
+                                 bujorelm_spaces_size(n->description.count), n->flash, n->flash_len, n->memory, n->memory_len, &n->lock,
+                                 datagram, len, b->reply.bytes, b->reply.len);
+
+    CHECK(answer.frame_count == 0);
+    return answer;
+}
+
+static struct bujorelm_result feed_hex(struct board *b, uint32_t top, uint32_t source, const char *hex)
 {
     uint8_t data[80];
     const size_t len = from_hex(hex, data);
@@ -213,7 +332,7 @@ static void lent_new(struct lent *l, bool at_start)
     l->lock = guarded_new(sizeof(struct bujorelm_lock), at_start);
     l->pool = guarded_new(BUJORELM_POOL_SIZE, at_start);
     l->places = guarded_new(sizeof(struct bujorelm_reception), at_start);
-    l->frames = guarded_new(BUJORELM_FRAMES_MAX * sizeof(struct bujorelm_frame), at_start);
+    l->frames = guarded_new(BUJORELM_SENT_MAX * sizeof(struct bujorelm_frame), at_start);
     memset(l->lock.bytes, 0, l->lock.len);
     memset(l->pool.bytes, UNTOUCHED, l->pool.len);
     memset(l->places.bytes, 0, l->places.len);
@@ -235,15 +354,15 @@ static struct bujorelm_reception *places_of(const struct lent *l)
 
 static struct bujorelm_frame *frames_of(const struct lent *l)
 {
-    return (struct bujorelm_frame *)(void *)l->frames.bytes;
+    return frames_in(&l->frames);
 }
 
 /* A frame to the demonstration board, by the function of the library itself. */
-static struct bujorelm_numbers feed_lent(const struct board *b, const struct lent *l, uint32_t header, const uint8_t *data, size_t len)
+static struct bujorelm_result feed_lent(const struct board *b, const struct lent *l, uint32_t header, const uint8_t *data, size_t len)
 {
     return bujorelm_handle_frame(0x22B, 0xF2, b->node.description.spaces, b->table.len, b->flash.bytes, b->flash.len, b->memory.bytes,
                                  b->memory.len, (struct bujorelm_lock *)(void *)l->lock.bytes, l->pool.bytes, places_of(l), header, data,
-                                 len, b->reply.bytes, b->reply.len);
+                                 len, b->reply.bytes, b->reply.len, frames_of(l));
 }
 
 /* What the header asserts of sizes is true of the library too: a field of every struct goes over and comes back in its place, and nothing
@@ -262,11 +381,11 @@ static void test_layout(void)
     for (int at_start = 0; at_start < 2; at_start++) {
         struct board b;
         struct lent l;
-        struct bujorelm_numbers answer;
+        struct bujorelm_result answer;
         uint8_t places[64];
 
         /* docs/DRIVER.md says so. */
-        CHECK(sizeof b.node == 704 && sizeof b.node.description == 24);
+        CHECK(sizeof b.node == 936 && sizeof b.node.description == 24);
         board_demonstration(&b);
         lent_new(&l, at_start != 0);
         memcpy(l.places.bytes, place_0, 8);
@@ -285,15 +404,15 @@ static void test_layout(void)
         CHECK(memcmp(l.lock.bytes, locked + 2, 6) == 0);
         CHECK(memcmp(l.places.bytes, places, 64) == 0);
 
-        CHECK(bujorelm_cut(eight, 8, 0xABC, 0xDEF, frames_of(&l)) == 1);
+        memset(l.frames.bytes, UNTOUCHED, l.frames.len);
+        CHECK(bujorelm_cut(eight, 8, 0xDEF, 0xABC, frames_of(&l)) == 1);
         CHECK(memcmp(l.frames.bytes, single, 16) == 0 && is_untouched(l.frames.bytes, 16, l.frames.len));
         CHECK(frames_of(&l)->header == 0x1AABCDEFu && frames_of(&l)->len == 8);
-        /* At the end of the room for frames, so that the page behind it is the next byte. */
         memset(l.frames.bytes, UNTOUCHED, l.frames.len);
-        CHECK(bujorelm_received_ok(0x22B, 0xF23, 0x80, &frames_of(&l)[8]) == 1);
-        CHECK(is_untouched(l.frames.bytes, 0, 128) && memcmp(l.frames.bytes + 128, received_ok, 16) == 0);
-        CHECK(bujorelm_rejected(0x22B, 0xF23, 0x2040, &frames_of(&l)[8]) == 1);
-        CHECK(is_untouched(l.frames.bytes, 0, 128) && frames_of(&l)[8].header == 0x19A4822Bu);
+        CHECK(bujorelm_received_ok(0x22B, 0xF23, 0x80, frames_of(&l)) == 1);
+        CHECK(memcmp(l.frames.bytes, received_ok, 16) == 0 && is_untouched(l.frames.bytes, 16, l.frames.len));
+        CHECK(bujorelm_rejected(0x22B, 0xF23, 0x2040, frames_of(&l)) == 1);
+        CHECK(frames_of(&l)->header == 0x19A4822Bu && is_untouched(l.frames.bytes, 16, l.frames.len));
         lent_free(&l);
         board_free(&b);
     }
@@ -304,27 +423,50 @@ static void test_empty_buffers(void)
 {
     struct bujorelm_lock lock = {{0}};
     struct bujorelm_reception reception;
-    struct bujorelm_frame frames[BUJORELM_FRAMES_MAX];
+    struct bujorelm_frame frames[BUJORELM_SENT_MAX];
     uint8_t pool[BUJORELM_POOL_SIZE];
     uint8_t reply[BUJORELM_REPLY_MIN];
-    struct bujorelm_numbers answer;
+    struct bujorelm_result answer;
 
     memset(&reception, 0, sizeof reception);
     memset(frames, 0, sizeof frames);
     memset(pool, 0, sizeof pool);
     answer = bujorelm_handle_frame(0x22B, 0, NULL, 0, NULL, 0, NULL, 0, &lock, pool, &reception, header_of(SINGLE, 0x22B, 0x123), NULL, 0,
-                                   reply, sizeof reply);
+                                   reply, sizeof reply, frames);
     CHECK(is_answer(answer, BUJORELM_REJECTED, 0, 0, 0x1080, 0));
     answer = bujorelm_handle_frame(0x22B, 0, NULL, 0, NULL, 0, NULL, 0, &lock, pool, &reception, header_of(SINGLE, 0x22B, 0x123),
-                                   (const uint8_t *)"\x20\x80", 2, reply, sizeof reply);
+                                   (const uint8_t *)"\x20\x80", 2, reply, sizeof reply, frames);
     CHECK(is_answer(answer, BUJORELM_REPLIED, 0, 0x80, 0, 7));
-    answer = bujorelm_handle_frame(0x22B, 0, NULL, 0, NULL, 0, NULL, 0, &lock, pool, &reception, 0, NULL, 0, NULL, 0);
+    answer = bujorelm_handle_frame(0x22B, 0, NULL, 0, NULL, 0, NULL, 0, &lock, pool, &reception, 0, NULL, 0, NULL, 0, frames);
     CHECK(is_house(answer, BUJORELM_HOUSE_B6));
     answer = bujorelm_handle_datagram(0x22B, 0, NULL, 0, NULL, 0, NULL, 0, &lock, NULL, 0, reply, sizeof reply);
     CHECK(is_answer(answer, BUJORELM_REJECTED, 0, 0, 0x1080, 0));
-    CHECK(bujorelm_cut(NULL, 0, 1, 2, frames) == 1 && frames[0].header == 0x1A001002u && frames[0].len == 0);
+    CHECK(bujorelm_cut(NULL, 0, 2, 1, frames) == 1 && frames[0].header == 0x1A001002u && frames[0].len == 0);
     CHECK(!bujorelm_parse_line(NULL, 0).good);
+    CHECK(!bujorelm_next_line(NULL, 0, 0, (struct bujorelm_carry){.len = 0}).complete);
     CHECK(bujorelm_print_frame(frames[0], NULL, 0, 0) == 0);
+}
+
+/* What is only read may be the same bytes: a frame's data that lie in flash, and a table of spaces that is the flash. */
+static void test_const_overlap(void)
+{
+    static const struct bujorelm_space table[] = {{.number = 0xFF, .read_only = true, .in_flash = true, .lowest = 0, .highest = 15}};
+    static const uint8_t flash[] = {0x20, 0x43, 0, 0, 0, 0, 7};
+    const uint8_t *const bytes = (const uint8_t *)table;
+    struct bujorelm_lock lock = {{0}};
+    struct bujorelm_reception reception;
+    struct bujorelm_frame frames[BUJORELM_SENT_MAX];
+    uint8_t pool[BUJORELM_POOL_SIZE];
+    uint8_t reply[BUJORELM_REPLY_MIN];
+    struct bujorelm_result answer;
+
+    memset(&reception, 0, sizeof reception);
+    memset(pool, 0, sizeof pool);
+    answer = bujorelm_handle_frame(0x22B, 0, table, sizeof table, bytes, sizeof table, NULL, 0, &lock, pool, &reception,
+                                   header_of(SINGLE, 0x22B, 0x123), flash, sizeof flash, reply, sizeof reply, frames);
+    CHECK(is_answer(answer, BUJORELM_REPLIED, 0, 0x80, 0, 13) && memcmp(reply + 6, bytes, 7) == 0);
+    answer = bujorelm_handle_datagram(0x22B, 0, NULL, 0, flash, sizeof flash, NULL, 0, &lock, flash, sizeof flash, reply, sizeof reply);
+    CHECK(is_answer(answer, BUJORELM_REPLIED, 0, 0x80, 0, 8));
 }
 
 /* ---- Document 01's session ---- */
@@ -352,9 +494,9 @@ static void test_session(void)
         ":X1A22B123N200100000002ABCD;", ":X1B22B123N200800000002FD0F;", ":X1A22B456N20410000000202;", ":X1D22B123N5A;",
         ":X1A22B456N20410000000202;",   ":X1A22B123N20030000000001;",   ":X1A300123N2080;",
     };
-    static const uint8_t kinds[] = {
-        BUJORELM_ACCEPTED, BUJORELM_JOINED,  BUJORELM_REPLIED, BUJORELM_ACCEPTED,
-        BUJORELM_REPLIED,  BUJORELM_REPLIED, BUJORELM_IGNORED,
+    static const enum bujorelm_kind kinds[] = {
+        BUJORELM_WRITTEN, BUJORELM_JOINED,  BUJORELM_REPLIED, BUJORELM_WRITTEN,
+        BUJORELM_REPLIED, BUJORELM_REPLIED, BUJORELM_IGNORED,
     };
     static const char output[] = ":X19A2822BN012300;\n"
                                  ":X19A2822BN045680;\n"
@@ -371,7 +513,7 @@ static void test_session(void)
     CHECK(bujorelm_node_check(&b.node) == BUJORELM_HOUSE_NONE);
     for (size_t i = 0; i < sizeof input / sizeof input[0]; i++) {
         const struct bujorelm_parsed line = bujorelm_parse_line((const uint8_t *)input[i], strlen(input[i]));
-        struct bujorelm_numbers answer;
+        struct bujorelm_result answer;
 
         CHECK_CASE(line.good, input[i]);
         CHECK_CASE(bujorelm_node_receive(&b.node, line.frame.header, line.frame.bytes, line.frame.len, print_to_sink, &sink, &answer),
@@ -467,8 +609,31 @@ static const struct datagram_case datagram_cases[] = {
     {"20A800", 0x1080, NULL, NULL},
 };
 
+/* What an accepted write changes, as document 01 has it: the first byte's index in memory, and how many there are. */
+struct range {
+    size_t at;
+    size_t len;
+};
+
+static struct range written_range(const struct bujorelm_space *spaces, size_t count, const uint8_t *datagram, size_t len)
+{
+    const size_t form = datagram[1] & 3u;
+    const uint8_t number = form == 0 ? datagram[6] : (uint8_t)(0xFC + form);
+    const size_t rest = len - (form == 0 ? 7 : 6);
+    const uint32_t address =
+        (uint32_t)datagram[2] << 24 | (uint32_t)datagram[3] << 16 | (uint32_t)datagram[4] << 8 | (uint32_t)datagram[5];
+    struct range range = {SIZE_MAX, (datagram[1] & 8) != 0 ? rest / 2 : rest};
+
+    for (size_t i = 0; i < count; i++) {
+        if (spaces[i].number == number) {
+            range.at = spaces[i].offset + (size_t)(address - spaces[i].lowest);
+        }
+    }
+    return range;
+}
+
 /* Checks an answer against its case, however the datagram came to the board. */
-static void check_case(const struct datagram_case *c, const struct board *b, struct bujorelm_numbers answer)
+static void check_case(const struct datagram_case *c, const struct board *b, struct bujorelm_result answer)
 {
     uint8_t expected[80];
     uint8_t memory[DEMONSTRATION_MEMORY_SIZE] = {0};
@@ -477,7 +642,15 @@ static void check_case(const struct datagram_case *c, const struct board *b, str
     if (c->rejected != 0) {
         CHECK_CASE(is_answer(answer, BUJORELM_REJECTED, 0, 0, c->rejected, 0), c->datagram);
     } else if (c->reply == NULL) {
-        CHECK_CASE(is_answer(answer, BUJORELM_ACCEPTED, 0, 0x00, 0, 0), c->datagram);
+        const size_t sent = from_hex(c->datagram, expected);
+
+        if (sent == 2) {
+            CHECK_CASE(is_update_complete(answer), c->datagram);
+        } else {
+            const struct range range = written_range(demonstration_spaces, DEMONSTRATION_SPACES, expected, sent);
+
+            CHECK_CASE(is_written(answer, range.at, range.len), c->datagram);
+        }
     } else {
         len = from_hex(c->reply, expected);
         CHECK_CASE(is_answer(answer, BUJORELM_REPLIED, 0, 0x80, 0, len), c->datagram);
@@ -492,11 +665,11 @@ static void check_case(const struct datagram_case *c, const struct board *b, str
 }
 
 /* Sends a datagram in frames that the library cuts, and returns the answer to the last of them. */
-static struct bujorelm_numbers feed_cut(struct board *b, const uint8_t *datagram, size_t len, uint16_t source)
+static struct bujorelm_result feed_cut(struct board *b, const uint8_t *datagram, size_t len, uint16_t source)
 {
-    struct bujorelm_frame frames[BUJORELM_FRAMES_MAX];
-    const size_t count = bujorelm_cut(datagram, len, b->node.description.alias, source, frames);
-    struct bujorelm_numbers answer = {0, 0, 0, 0, 0};
+    struct bujorelm_frame frames[BUJORELM_SENT_MAX];
+    const size_t count = bujorelm_cut(datagram, len, source, b->node.description.alias, frames);
+    struct bujorelm_result answer = {.kind = BUJORELM_IGNORED};
 
     CHECK(count != 0);
     for (size_t i = 0; i < count; i++) {
@@ -520,7 +693,7 @@ static void test_datagrams(void)
 
         memcpy(datagram.bytes, bytes, len);
         board_demonstration(&b);
-        check_case(c, &b, bujorelm_node_handle_datagram(&b.node, datagram.bytes, len, b.reply.bytes, b.reply.len));
+        check_case(c, &b, hand_over(&b, datagram.bytes, len));
         board_free(&b);
         guarded_free(&datagram);
 
@@ -537,7 +710,7 @@ static void test_longest(void)
     struct board b;
     struct draft d = draft_demonstration();
     uint8_t datagram[80];
-    struct bujorelm_numbers answer;
+    struct bujorelm_result answer;
 
     /* 64 bytes written and read back, by byte 6: 72 bytes is the longest datagram. */
     d.count = 1;
@@ -549,9 +722,9 @@ static void test_longest(void)
         datagram[7 + i] = (uint8_t)(i + 1);
     }
     answer = feed_cut(&b, datagram, 71, 0x123);
-    CHECK(is_answer(answer, BUJORELM_ACCEPTED, 0, 0x00, 0, 0));
+    CHECK(is_written(answer, BUJORELM_STORE_MAX - 64, 64));
     CHECK(memcmp(b.memory.bytes + BUJORELM_STORE_MAX - 64, datagram + 7, 64) == 0);
-    answer = bujorelm_node_handle_datagram(&b.node, datagram, 72, b.reply.bytes, b.reply.len);
+    answer = hand_over(&b, datagram, 72);
     CHECK(is_answer(answer, BUJORELM_REJECTED, 0, 0, 0x1080, 0));
     from_hex("2040 FFFFFFC0 20 40", datagram);
     answer = feed_cut(&b, datagram, 8, 0x123);
@@ -565,10 +738,157 @@ static void test_longest(void)
         struct guarded whole = guarded_new(len, false);
 
         memset(whole.bytes, 0x20, len);
-        answer = bujorelm_node_handle_datagram(&b.node, whole.bytes, len, b.reply.bytes, b.reply.len);
+        answer = hand_over(&b, whole.bytes, len);
         CHECK(is_answer(answer, BUJORELM_REJECTED, 0, 0, 0x1080, 0));
         guarded_free(&whole);
     }
+    board_free(&b);
+}
+
+/* A write of `len` bytes, plain or masked, with the space in byte 6. Returns the datagram's length. */
+static size_t make_write(uint8_t *datagram, bool masked, uint8_t number, uint32_t address, size_t len)
+{
+    random_bytes(datagram, BUJORELM_DATAGRAM_MAX);
+    datagram[0] = 0x20;
+    datagram[1] = masked ? 0x08 : 0x00;
+    datagram[2] = (uint8_t)(address >> 24);
+    datagram[3] = (uint8_t)(address >> 16);
+    datagram[4] = (uint8_t)(address >> 8);
+    datagram[5] = (uint8_t)address;
+    datagram[6] = number;
+    return 7 + (masked ? 2 * len : len);
+}
+
+/* Writes to a space, and checks which bytes it says that it changed, that they hold what was written, and that no other byte changed. */
+static void check_write(struct board *b, bool masked, const struct bujorelm_space *space, uint32_t address, size_t len, bool whole)
+{
+    const size_t at = space->offset + (size_t)(address - space->lowest);
+    uint8_t datagram[BUJORELM_DATAGRAM_MAX];
+    const size_t sent = make_write(datagram, masked, space->number, address, len);
+    uint8_t *const before = malloc(b->memory.len);
+    struct bujorelm_result answer;
+
+    if (before == NULL) {
+        give_up("malloc");
+    }
+    random_bytes(b->memory.bytes + at, len);
+    memcpy(before, b->memory.bytes, b->memory.len);
+    answer = whole ? hand_over(b, datagram, sent) : feed_cut(b, datagram, sent, 0x123);
+    CHECK(is_written(answer, at, len));
+    CHECK(is_same_outside(b->memory.bytes, before, b->memory.len, at, len));
+    for (size_t i = 0; i < len; i++) {
+        const uint8_t mask = masked ? datagram[7 + 2 * i] : 0xFF;
+        const uint8_t data = masked ? datagram[8 + 2 * i] : datagram[7 + i];
+
+        CHECK(b->memory.bytes[at + i] == ((before[at + i] & (uint8_t)~mask) | (data & mask)));
+    }
+    CHECK(is_untouched(b->reply.bytes, 0, b->reply.len));
+    free(before);
+}
+
+/* Which bytes a write changes: every length at the first and at the last address that it fits, plain and masked, in spaces that overlap. */
+static void test_changed(void)
+{
+    struct draft d = draft_demonstration();
+    uint8_t datagram[BUJORELM_DATAGRAM_MAX];
+    uint8_t before[200];
+    struct board b;
+
+    /* Spaces over each other, one inside another, one of a single byte, and one at the end of memory with the greatest addresses. */
+    d.count = 6;
+    d.spaces[0] = (struct bujorelm_space){.number = 0x20, .lowest = 0, .highest = 99, .offset = 0};
+    d.spaces[1] = (struct bujorelm_space){.number = 0xFD, .lowest = 1000, .highest = 1079, .offset = 50};
+    d.spaces[2] = (struct bujorelm_space){.number = 0x21, .lowest = 5, .highest = 68, .offset = 60};
+    d.spaces[3] = (struct bujorelm_space){.number = 0x00, .lowest = 0, .highest = 199, .offset = 0};
+    d.spaces[4] = (struct bujorelm_space){.number = 0x22, .lowest = 77, .highest = 77, .offset = 199};
+    d.spaces[5] = (struct bujorelm_space){.number = 0xFE, .lowest = 0xFFFFFFFFu - 99, .highest = 0xFFFFFFFFu, .offset = 100};
+    board_new(&b, &d, 0, sizeof before, BUJORELM_REPLY_MIN);
+    random_bytes(b.memory.bytes, b.memory.len);
+    for (size_t i = 0; i < d.count; i++) {
+        const struct bujorelm_space *const s = &d.spaces[i];
+        const size_t size = (size_t)(s->highest - s->lowest) + 1;
+
+        for (size_t len = 1; len <= size && len <= 64; len++) {
+            for (int masked = 0; masked < (len <= 32 ? 2 : 1); masked++) {
+                const uint32_t last = s->highest - (uint32_t)(len - 1);
+
+                check_write(&b, masked != 0, s, s->lowest, len, true);
+                check_write(&b, masked != 0, s, s->lowest, len, false);
+                check_write(&b, masked != 0, s, last, len, true);
+                check_write(&b, masked != 0, s, last, len, false);
+                /* A byte further it does not fit: then it fails, and nothing changes. */
+                memcpy(before, b.memory.bytes, sizeof before);
+                if (s->highest != 0xFFFFFFFFu) {
+                    const size_t sent = make_write(datagram, masked != 0, s->number, last + 1, len);
+
+                    CHECK(is_answer(feed_cut(&b, datagram, sent, 0x123), BUJORELM_REPLIED, 0, 0x80, 0, 9));
+                    CHECK(memcmp(b.memory.bytes, before, sizeof before) == 0);
+                    memset(b.reply.bytes, UNTOUCHED, b.reply.len);
+                }
+            }
+        }
+    }
+    /* What is written may be what was there. */
+    memset(b.memory.bytes, 0x5E, b.memory.len);
+    memset(before, 0x5E, sizeof before);
+    CHECK(is_written(feed_hex(&b, SINGLE, 1, "2001000003E85E5E"), 50, 2));
+    CHECK(is_written(feed_hex(&b, SINGLE, 1, "2009000003E800FF"), 50, 1));
+    CHECK(memcmp(b.memory.bytes, before, sizeof before) == 0);
+    /* Update Complete, from a tool that wrote and from one that did not, changes nothing. */
+    CHECK(is_update_complete(feed_hex(&b, SINGLE, 1, "20A8")) && is_update_complete(feed_hex(&b, SINGLE, 2, "20A8")));
+    CHECK(is_update_complete(hand_over(&b, (const uint8_t *)"\x20\xA8", 2)));
+    CHECK(memcmp(b.memory.bytes, before, sizeof before) == 0);
+    board_free(&b);
+
+    /* The greatest index in memory. */
+    d.count = 1;
+    d.spaces[0] = (struct bujorelm_space){.number = 0x20, .lowest = 3, .highest = 3 + 0xFFFF, .offset = 0};
+    board_new(&b, &d, 0, BUJORELM_STORE_MAX, BUJORELM_REPLY_MIN);
+    for (size_t len = 1; len <= 64; len++) {
+        check_write(&b, false, &d.spaces[0], 3 + 0x10000 - (uint32_t)len, len, len % 2 == 0);
+        check_write(&b, len <= 32, &d.spaces[0], 3 + 0x8000, len, len % 2 == 0);
+    }
+    board_free(&b);
+}
+
+/* Whether a result has these bytes, which is how the library sees it. The last is padding and is not looked at. */
+static bool has_bytes(struct bujorelm_result result, const char *hex)
+{
+    uint8_t expected[16];
+
+    return from_hex(hex, expected) == 15 && memcmp(&result, expected, 15) == 0;
+}
+
+static void test_result_bytes(void)
+{
+    static const char *const cases[][2] = {
+        {"2000 00000CC1 20 0102030405", "05000000 0000 00 00 BE0C0000 05 00 01"},
+        {"2000 00010002 20 01", "05000000 0000 00 00 FFFF0000 01 00 01"},
+        {"20A8", "07000000 0000 00 00 00000000 00 00 01"},
+        {"2080", "06000000 0000 00 80 00000000 00 07 02"},
+        {"2040 00000003 20 40", "06000000 0000 00 80 00000000 00 47 0A"},
+        {"2044", "04000000 4110 00 00 00000000 00 00 01"},
+    };
+    struct draft d = draft_demonstration();
+    uint8_t datagram[BUJORELM_DATAGRAM_MAX];
+    struct board b;
+
+    d.count = 1;
+    d.spaces[0] = (struct bujorelm_space){.number = 0x20, .lowest = 3, .highest = 3 + 0xFFFF, .offset = 0};
+    for (size_t i = 0; i < sizeof cases / sizeof cases[0]; i++) {
+        const size_t len = from_hex(cases[i][0], datagram);
+
+        board_new(&b, &d, 0, BUJORELM_STORE_MAX, BUJORELM_REPLY_MIN);
+        CHECK_CASE(has_bytes(feed_cut(&b, datagram, len, 0x123), cases[i][1]), cases[i][0]);
+        board_free(&b);
+    }
+    board_new(&b, &d, 0, BUJORELM_STORE_MAX, BUJORELM_REPLY_MIN);
+    CHECK(has_bytes(feed_hex(&b, LAST, 0x123, ""), "03000000 4020 00 00 00000000 00 00 01"));
+    CHECK(has_bytes(feed_hex(&b, FIRST, 0x123, ""), "02000000 0000 00 00 00000000 00 00 00"));
+    CHECK(has_bytes(feed(&b, 0, NULL, 0), "01000000 0000 00 00 00000000 00 00 00"));
+    b.node.reception.places[7].held = 1;
+    b.node.reception.places[7].len = 73;
+    CHECK(has_bytes(feed(&b, 0, NULL, 0), "00000000 0000 07 00 00000000 00 00 00"));
     board_free(&b);
 }
 
@@ -584,14 +904,14 @@ static void test_lock(void)
 
     board_demonstration(&b);
     for (size_t i = 0; i < sizeof steps / sizeof steps[0]; i++) {
-        const struct bujorelm_numbers answer = feed_hex(&b, SINGLE, 0x123 + (uint32_t)i, steps[i][0]);
+        const struct bujorelm_result answer = feed_hex(&b, SINGLE, 0x123 + (uint32_t)i, steps[i][0]);
 
         from_hex(steps[i][1], expected);
         CHECK_CASE(is_answer(answer, BUJORELM_REPLIED, 0, 0x80, 0, 8), steps[i][0]);
         CHECK_CASE(memcmp(b.reply.bytes, expected, 8) == 0, steps[i][0]);
         CHECK_CASE(memcmp(b.node.lock.bytes, expected + 2, 6) == 0, steps[i][0]);
     }
-    CHECK(feed_hex(&b, SINGLE, 0x777, "20010000000042").kind == BUJORELM_ACCEPTED);
+    CHECK(is_written(feed_hex(&b, SINGLE, 0x777, "20010000000042"), 0, 1));
     CHECK(b.memory.bytes[0] == 0x42);
     CHECK(memcmp(b.node.lock.bytes, expected + 2, 6) == 0);
     board_free(&b);
@@ -613,7 +933,7 @@ static void test_left_out(void)
     for (size_t i = 0; i < sizeof cases / sizeof cases[0]; i++) {
         uint8_t expected[16];
         const size_t len = from_hex(cases[i][1], expected);
-        struct bujorelm_numbers answer;
+        struct bujorelm_result answer;
 
         board_new(&b, &none, 0, 0, BUJORELM_REPLY_MIN);
         answer = feed_hex(&b, SINGLE, 0xFFF, cases[i][0]);
@@ -641,7 +961,7 @@ static void check_refused(struct board *b, uint8_t house, bool datagrams, const 
     CHECK_CASE(is_house(feed(b, header_of(FIRST, 0x22B, 0x124), write, sizeof write), house), word);
     CHECK_CASE(is_house(feed(b, 0, NULL, 0), house), word);
     if (datagrams) {
-        CHECK_CASE(is_house(bujorelm_node_handle_datagram(&b->node, write, sizeof write, b->reply.bytes, b->reply.len), house), word);
+        CHECK_CASE(is_house(hand_over(b, write, sizeof write), house), word);
     }
     CHECK_CASE(same_places(&b->node.reception, &before.reception), word);
     CHECK_CASE(memcmp(b->node.lock.bytes, before.lock.bytes, 6) == 0, word);
@@ -798,7 +1118,7 @@ static void test_bad_states(void)
     CHECK(bujorelm_node_check(&b.node) == BUJORELM_HOUSE_NONE);
     /* A whole datagram asks nothing of the state. */
     b.node.reception.places[7].len = 80;
-    CHECK(bujorelm_node_handle_datagram(&b.node, (const uint8_t *)"\x20\xA8", 2, b.reply.bytes, b.reply.len).kind == BUJORELM_ACCEPTED);
+    CHECK(is_update_complete(hand_over(&b, (const uint8_t *)"\x20\xA8", 2)));
     board_free(&b);
 }
 
@@ -832,7 +1152,7 @@ static void check_space(const struct draft *d, bool read_only, uint8_t content, 
         CHECK_CASE(memcmp(b.reply.bytes, fails, sizeof fails) == 0, word);
         CHECK_CASE(b.memory.bytes[32] == 0x3E, word);
     } else {
-        CHECK_CASE(is_answer(feed_hex(&b, SINGLE, 1, "2000000001001099"), BUJORELM_ACCEPTED, 0, 0, 0, 0), word);
+        CHECK_CASE(is_written(feed_hex(&b, SINGLE, 1, "2000000001001099"), 32, 1), word);
         CHECK_CASE(b.memory.bytes[32] == 0x99, word);
     }
     board_free(&b);
@@ -901,7 +1221,7 @@ static void test_table_sizes(void)
     struct bujorelm_lock lock = {{0}};
     uint8_t memory[1] = {0x5E};
     uint8_t reply[BUJORELM_REPLY_MIN];
-    struct bujorelm_numbers answer;
+    struct bujorelm_result answer;
     static const size_t too_large[] = {
         288, 4096, 65536 + 64, ((size_t)1 << 32) + 64, ((size_t)1 << 36) + 64, SIZE_MAX / 2 + 1, SIZE_MAX - 15, SIZE_MAX,
     };
@@ -962,7 +1282,7 @@ static void test_place_bytes(void)
         CHECK(bujorelm_node_check(&b.node) == BUJORELM_HOUSE_NONE && same_places(&b.node.reception, &before));
         /* Ignored, and a datagram of one frame from a third tool: nothing of the places changes. */
         CHECK(feed(&b, header_of(LAST, 0x22C, 0x123), NULL, 0).kind == BUJORELM_IGNORED);
-        CHECK(is_answer(feed_hex(&b, SINGLE, 0x456, "20A8"), BUJORELM_ACCEPTED, 0, 0, 0, 0));
+        CHECK(is_update_complete(feed_hex(&b, SINGLE, 0x456, "20A8")));
         CHECK(same_places(&b.node.reception, &before));
         if (held == 0) {
             CHECK(is_refusal(feed_hex(&b, LAST, 0x123, ""), 0x2040));
@@ -970,7 +1290,7 @@ static void test_place_bytes(void)
             CHECK(same_places(&b.node.reception, &before));
         } else {
             /* The one is finished and its place all zero; the other is not touched, and then dropped. */
-            CHECK(is_answer(feed_hex(&b, LAST, 0x123, ""), BUJORELM_ACCEPTED, 0, 0, 0, 0));
+            CHECK(is_update_complete(feed_hex(&b, LAST, 0x123, "")));
             memset(&before.places[2], 0, sizeof before.places[2]);
             CHECK(same_places(&b.node.reception, &before));
             CHECK(is_refusal(feed_hex(&b, MIDDLE, 0xFFF, "00"), 0x2000));
@@ -1036,14 +1356,14 @@ static void test_transport_refusals(void)
     CHECK(!nothing_unfinished(&b.node));
     CHECK(is_refusal(feed_hex(&b, SINGLE, 0x123, "20A8"), 0x2040));
     CHECK(nothing_unfinished(&b.node));
-    CHECK(is_answer(feed_hex(&b, SINGLE, 0x123, "20A8"), BUJORELM_ACCEPTED, 0, 0, 0, 0));
+    CHECK(is_update_complete(feed_hex(&b, SINGLE, 0x123, "20A8")));
 
     /* An empty Middle drops; an empty Last does not. */
     CHECK(is_joined(feed_hex(&b, FIRST, 0x123, "20A8")));
     CHECK(is_refusal(feed_hex(&b, MIDDLE, 0x123, ""), 0x2040));
     CHECK(is_refusal(feed_hex(&b, LAST, 0x123, ""), 0x2040));
     CHECK(is_joined(feed_hex(&b, FIRST, 0x123, "20A8")));
-    CHECK(is_answer(feed_hex(&b, LAST, 0x123, ""), BUJORELM_ACCEPTED, 0, 0, 0, 0));
+    CHECK(is_update_complete(feed_hex(&b, LAST, 0x123, "")));
     CHECK(is_joined(feed_hex(&b, FIRST, 0x123, "")));
     CHECK(is_answer(feed_hex(&b, LAST, 0x123, ""), BUJORELM_REJECTED, 0, 0, 0x1080, 0));
 
@@ -1073,13 +1393,13 @@ static void test_transport_refusals(void)
     }
     CHECK(is_refusal(feed_hex(&b, FIRST, 9, "20"), 0x2020));
     CHECK(is_refusal(feed_hex(&b, LAST, 9, "A8"), 0x2040));
-    CHECK(is_answer(feed_hex(&b, SINGLE, 9, "20A8"), BUJORELM_ACCEPTED, 0, 0, 0, 0));
+    CHECK(is_update_complete(feed_hex(&b, SINGLE, 9, "20A8")));
     CHECK(is_refusal(feed_hex(&b, FIRST, 5, "20"), 0x2040));
     CHECK(is_joined(feed_hex(&b, FIRST, 9, "20")));
     CHECK(is_refusal(feed_hex(&b, FIRST, 5, "20"), 0x2020));
     for (uint32_t source = 9; source >= 1; source--) {
         if (source != 5) {
-            CHECK(is_answer(feed_hex(&b, LAST, source, "A8"), BUJORELM_ACCEPTED, 0, 0, 0, 0));
+            CHECK(is_update_complete(feed_hex(&b, LAST, source, "A8")));
         }
     }
     CHECK(nothing_unfinished(&b.node));
@@ -1103,11 +1423,11 @@ static void test_ignored(void)
     CHECK(is_joined(feed_hex(&b, FIRST, 0x123, "2041")));
     for (uint32_t top = 0; top < 0x100; top++) {
         const struct bujorelm_reception before = b.node.reception;
-        const struct bujorelm_numbers answer = feed(&b, header_of(top, 0x22B, 0x456), data, 2);
+        const struct bujorelm_result answer = feed(&b, header_of(top, 0x22B, 0x456), data, 2);
 
         switch (top) {
         case SINGLE:
-            CHECK(is_answer(answer, BUJORELM_ACCEPTED, 0, 0, 0, 0));
+            CHECK(is_update_complete(answer));
             break;
         case FIRST:
             CHECK(is_joined(answer));
@@ -1134,13 +1454,13 @@ static void test_ignored(void)
     CHECK(feed(&b, 0x19A48456u, (const uint8_t *)"\x02\x2B\x10\x80", 4).kind == BUJORELM_IGNORED);
 
     for (size_t len = 0; len <= sizeof data; len++) {
-        const struct bujorelm_numbers answer = feed(&b, header_of(SINGLE, 0x22B, 0x456), data, len);
+        const struct bujorelm_result answer = feed(&b, header_of(SINGLE, 0x22B, 0x456), data, len);
 
         if (len > 8) {
             CHECK(is_answer(answer, BUJORELM_IGNORED, 0, 0, 0, 0));
             CHECK(feed(&b, header_of(MIDDLE, 0x22B, 0x123), data, len).kind == BUJORELM_IGNORED);
         } else if (len == 2) {
-            CHECK(is_answer(answer, BUJORELM_ACCEPTED, 0, 0, 0, 0));
+            CHECK(is_update_complete(answer));
         } else {
             CHECK(is_answer(answer, BUJORELM_REJECTED, 0, 0, 0x1080, 0));
         }
@@ -1155,7 +1475,7 @@ static void test_ignored(void)
 
 static void test_cutting(void)
 {
-    struct bujorelm_frame frames[BUJORELM_FRAMES_MAX];
+    struct bujorelm_frame frames[BUJORELM_SENT_MAX];
     const uint8_t *const bytes = (const uint8_t *)frames;
 
     for (size_t len = 0; len <= 80; len++) {
@@ -1166,7 +1486,7 @@ static void test_cutting(void)
             datagram.bytes[i] = (uint8_t)(i + 1);
         }
         memset(frames, UNTOUCHED, sizeof frames);
-        count = bujorelm_cut(datagram.bytes, len, 0x123, 0x22B, frames);
+        count = bujorelm_cut(datagram.bytes, len, 0x22B, 0x123, frames);
         CHECK(count == (len > 72 ? 0 : len == 0 ? 1 : (len + 7) / 8));
         for (size_t i = 0; i < count; i++) {
             const struct bujorelm_frame *const f = &frames[i];
@@ -1193,21 +1513,22 @@ static void test_cutting(void)
 
 static void test_transport_replies(void)
 {
-    struct bujorelm_frame f;
+    struct bujorelm_frame f[BUJORELM_SENT_MAX];
+    const uint8_t *const bytes = (const uint8_t *)f;
 
-    memset(&f, UNTOUCHED, sizeof f);
-    CHECK(bujorelm_received_ok(0x22B, 0xF23, 0x80, &f) == 1 && f.header == 0x19A2822Bu && f.len == 3);
-    CHECK(memcmp(f.bytes, "\x0F\x23\x80\0\0\0\0", 8) == 0);
-    memset(&f, UNTOUCHED, sizeof f);
-    CHECK(bujorelm_rejected(0x22B, 0xF23, 0x2040, &f) == 1 && f.header == 0x19A4822Bu && f.len == 4);
-    CHECK(memcmp(f.bytes, "\x0F\x23\x20\x40\0\0\0", 8) == 0);
-    CHECK(bujorelm_received_ok(4095, 4095, 0, &f) == 1 && f.header == 0x19A28FFFu);
-    CHECK(bujorelm_rejected(0, 0, 0, &f) == 1 && f.header == 0x19A48000u);
-    memset(&f, UNTOUCHED, sizeof f);
-    CHECK(bujorelm_received_ok(4096, 1, 0, &f) == 0 && bujorelm_received_ok(1, 4096, 0, &f) == 0);
-    CHECK(bujorelm_rejected(4096, 1, 0x1080, &f) == 0 && bujorelm_rejected(1, 4096, 0x1080, &f) == 0);
-    CHECK(bujorelm_rejected(0xFFFF, 0xFFFF, 0x1080, &f) == 0);
-    CHECK(is_untouched((const uint8_t *)&f, 0, sizeof f));
+    memset(f, UNTOUCHED, sizeof f);
+    CHECK(bujorelm_received_ok(0x22B, 0xF23, 0x80, f) == 1 && f[0].header == 0x19A2822Bu && f[0].len == 3);
+    CHECK(memcmp(f[0].bytes, "\x0F\x23\x80\0\0\0\0", 8) == 0 && is_untouched(bytes, 16, sizeof f));
+    memset(f, UNTOUCHED, sizeof f);
+    CHECK(bujorelm_rejected(0x22B, 0xF23, 0x2040, f) == 1 && f[0].header == 0x19A4822Bu && f[0].len == 4);
+    CHECK(memcmp(f[0].bytes, "\x0F\x23\x20\x40\0\0\0", 8) == 0 && is_untouched(bytes, 16, sizeof f));
+    CHECK(bujorelm_received_ok(4095, 4095, 0, f) == 1 && f[0].header == 0x19A28FFFu);
+    CHECK(bujorelm_rejected(0, 0, 0, f) == 1 && f[0].header == 0x19A48000u);
+    memset(f, UNTOUCHED, sizeof f);
+    CHECK(bujorelm_received_ok(4096, 1, 0, f) == 0 && bujorelm_received_ok(1, 4096, 0, f) == 0);
+    CHECK(bujorelm_rejected(4096, 1, 0x1080, f) == 0 && bujorelm_rejected(1, 4096, 0x1080, f) == 0);
+    CHECK(bujorelm_rejected(0xFFFF, 0xFFFF, 0x1080, f) == 0);
+    CHECK(is_untouched(bytes, 0, sizeof f));
 }
 
 /* ---- GridConnect ---- */
@@ -1302,6 +1623,217 @@ static void test_lines(void)
     CHECK(bujorelm_parse_line((const uint8_t *)":XFFFFFFFFN;", 12).frame.header == 0xFFFFFFFFu);
 }
 
+/* ---- The line splitter ---- */
+
+static bool same_parsed(const struct bujorelm_parsed *a, const struct bujorelm_parsed *b)
+{
+    return a->good == b->good && memcmp(&a->frame, &b->frame, sizeof a->frame) == 0;
+}
+
+/* The lines of an input, found here: what stands before each newline, and what is left behind the last of them. */
+struct lines {
+    struct bujorelm_parsed parsed[64];
+    size_t count;
+};
+
+static void lines_add(struct lines *lines, struct bujorelm_parsed parsed)
+{
+    if (lines->count == sizeof lines->parsed / sizeof lines->parsed[0]) {
+        fputs("too many lines\n", stderr);
+        exit(EXIT_FAILURE);
+    }
+    lines->parsed[lines->count++] = parsed;
+}
+
+static struct lines lines_of(const uint8_t *text, size_t len)
+{
+    struct lines lines = {.count = 0};
+    size_t begun = 0;
+
+    for (size_t i = 0; i < len; i++) {
+        if (text[i] == '\n') {
+            lines_add(&lines, bujorelm_parse_line(text + begun, i - begun));
+            begun = i + 1;
+        }
+    }
+    if (begun != len) {
+        lines_add(&lines, bujorelm_parse_line(text + begun, len - begun));
+    }
+    return lines;
+}
+
+static bool same_lines(const struct lines *a, const struct lines *b)
+{
+    for (size_t i = 0; i < a->count && i < b->count; i++) {
+        if (!same_parsed(&a->parsed[i], &b->parsed[i])) {
+            return false;
+        }
+    }
+    return a->count == b->count;
+}
+
+static bool is_zero(const void *bytes, size_t len)
+{
+    static const uint8_t zeros[64];
+
+    return len <= sizeof zeros && memcmp(bytes, zeros, len) == 0;
+}
+
+/* Reads a chunk, which ends at a guard, and checks each step by itself. */
+static void split_chunk(struct lines *lines, struct bujorelm_carry *carry, const struct guarded *room, const uint8_t *text, size_t len)
+{
+    const uint8_t *const chunk = memcpy(room->bytes + room->len - len, text, len);
+    size_t at = 0;
+
+    while (at < len) {
+        const struct bujorelm_line line = bujorelm_next_line(chunk, len, at, *carry);
+        const uint8_t *const newline = memchr(chunk + at, '\n', len - at);
+
+        CHECK(line.complete == (newline != NULL));
+        CHECK(line.at == (newline == NULL ? len : (size_t)(newline - chunk) + 1));
+        if (line.complete) {
+            CHECK(is_zero(&line.carry, sizeof line.carry));
+            lines_add(lines, line.parsed);
+        } else {
+            CHECK(!line.parsed.good && is_zero(&line.parsed.frame, sizeof line.parsed.frame));
+        }
+        if (line.at <= at) {
+            CHECK(line.at > at);
+            return;
+        }
+        *carry = line.carry;
+        at = line.at;
+    }
+}
+
+/* An input in up to three chunks. */
+static struct lines split(const struct guarded *room, const uint8_t *text, size_t first, size_t second, size_t len)
+{
+    struct lines lines = {.count = 0};
+    struct bujorelm_carry carry;
+    struct bujorelm_line last;
+
+    memset(&carry, 0, sizeof carry);
+    split_chunk(&lines, &carry, room, text, first);
+    split_chunk(&lines, &carry, room, text + first, second - first);
+    split_chunk(&lines, &carry, room, text + second, len - second);
+    last = bujorelm_last_line(carry);
+    CHECK(is_zero(&last.carry, sizeof last.carry) && last.at == 0);
+    if (last.complete) {
+        lines_add(&lines, last.parsed);
+    } else {
+        CHECK(!last.parsed.good && is_zero(&last.parsed.frame, sizeof last.parsed.frame));
+    }
+    return lines;
+}
+
+/* How an input is cut into chunks plays no part: every cut in two and in three. */
+static void test_cuts(void)
+{
+    static const char *const texts[] = {
+        "",
+        "\n",
+        "\n\n:",
+        ":X1A22B123N200100000002ABCD;\n:X1A22B456N20410000000202;\n\n:X1D22B123N5A;",
+        ":X1A22B123N0011223344556677;\n:X1A22B123N0011223344556677;;\n:X1A22B123N0011223344556677; \n:X1A22B123N;\r\n:XFFFFFFFFN;",
+        "xxxxxxxxxxxxxxxxxxxxxxxxxxxxxxxxxxxxxxxxxxxxxxxxxxxxxxxxxxxxxxxxxxxxxx:X1A22B123N20;\n:X1A22B123N20;\n:X1A22B123N20;\n?",
+        ":X1A22B123N0011223344556677;:X1A22B123N0011223344556677;\n:x\n\n\n:X00000000N00;\n",
+    };
+
+    for (size_t i = 0; i < sizeof texts / sizeof texts[0]; i++) {
+        const uint8_t *const text = (const uint8_t *)texts[i];
+        const size_t len = strlen(texts[i]);
+        const struct lines expected = lines_of(text, len);
+        struct guarded room = guarded_new(len, false);
+
+        for (size_t first = 0; first <= len; first++) {
+            for (size_t second = first; second <= len; second++) {
+                const struct lines lines = split(&room, text, first, second, len);
+
+                CHECK_CASE(same_lines(&lines, &expected), texts[i]);
+            }
+        }
+        guarded_free(&room);
+    }
+}
+
+/* A carry of any bytes is the beginning of a line; with a `len` over 29 it is one of 29 bytes, which is too long to be good. */
+static void test_carries(void)
+{
+    static const char line_text[] = ":X1A22B123N0011223344556677;";
+    uint8_t chunk[64];
+    const size_t froms[] = {0, 1, 5, 12, 28, 29, 30, 31, SIZE_MAX / 2, SIZE_MAX - 1, SIZE_MAX};
+
+    for (unsigned turn = 0; turn < 4 * 256; turn++) {
+        struct bujorelm_carry carry;
+        struct bujorelm_line line;
+        const size_t len = turn % 256;
+        const size_t begun = len < 29 ? len : 29;
+
+        random_bytes(carry.text, sizeof carry.text);
+        random_bytes(carry.unused, sizeof carry.unused);
+        if (turn >= 256) {
+            /* Text that would be good if its length were another. */
+            memcpy(carry.text, line_text, 28);
+        }
+        carry.len = (uint8_t)len;
+        memset(chunk, 'x', sizeof chunk);
+        memcpy(chunk, line_text + (begun < 28 ? begun : 0), begun < 28 ? 28 - begun : 0);
+        chunk[30] = '\n';
+        if (turn >= 512 && begun <= 28) {
+            /* The rest of the line, so that it is good for a `len` up to 28. */
+            chunk[28 - begun] = '\n';
+        }
+        for (size_t i = 0; i < sizeof froms / sizeof froms[0]; i++) {
+            const size_t from = froms[i] < 31 ? froms[i] : 31;
+            uint8_t joined[29 + 64];
+            size_t end = from;
+            struct bujorelm_parsed expected;
+
+            while (end < 31 && chunk[end] != '\n') {
+                end++;
+            }
+            memcpy(joined, carry.text, begun);
+            memcpy(joined + begun, chunk + from, end - from);
+            expected = bujorelm_parse_line(joined, begun + end - from);
+            line = bujorelm_next_line(chunk, 31, froms[i], carry);
+            CHECK(line.complete == (end < 31) && line.at == (end < 31 ? end + 1 : 31));
+            if (line.complete) {
+                CHECK(same_parsed(&line.parsed, &expected) && is_zero(&line.carry, sizeof line.carry));
+            } else {
+                CHECK(!line.parsed.good && line.carry.len == begun && memcmp(line.carry.text, carry.text, begun) == 0);
+            }
+        }
+        line = bujorelm_last_line(carry);
+        CHECK(line.complete == (len != 0) && line.at == 0 && is_zero(&line.carry, sizeof line.carry));
+        if (line.complete) {
+            const struct bujorelm_parsed expected = bujorelm_parse_line(carry.text, begun);
+
+            CHECK(same_parsed(&line.parsed, &expected));
+        }
+    }
+}
+
+/* A step as bytes: where each of its parts lies, as the library has it. */
+static void test_line_bytes(void)
+{
+    static const char text[] = ":X1234ABCDN0102;\n:X5";
+    struct bujorelm_carry carry;
+    struct bujorelm_line line;
+    uint8_t bytes[64];
+    uint8_t parsed[20] = {1, 0, 0, 0, 0xCD, 0xAB, 0x34, 0x12, 2, 0, 0, 0, 1, 2};
+
+    memset(&carry, 0, sizeof carry);
+    line = bujorelm_next_line((const uint8_t *)text, sizeof text - 1, 0, carry);
+    memcpy(bytes, &line, sizeof bytes);
+    CHECK(bytes[0] == 1 && bytes[4] == 1 && memcmp(bytes + 8, parsed + 4, 16) == 0 && is_zero(bytes + 24, 30));
+    CHECK(bytes[56] == 17 && is_zero(bytes + 57, 7));
+    line = bujorelm_next_line((const uint8_t *)text, sizeof text - 1, 17, line.carry);
+    memcpy(bytes, &line, sizeof bytes);
+    CHECK(bytes[0] == 0 && bytes[4] == 0 && is_zero(bytes + 8, 16));
+    CHECK(memcmp(bytes + 24, "\003:X5", 4) == 0 && is_zero(bytes + 28, 26) && bytes[56] == 20);
+}
+
 /* ---- The inline functions ---- */
 
 struct frame_sink {
@@ -1326,7 +1858,7 @@ static void test_inline_functions(void)
     static const uint8_t read_40[] = {0x20, 0x42, 0, 0, 0, 0, 0x30};
     struct board b;
     struct frame_sink sink = {.count = 0, .room = 16};
-    struct bujorelm_numbers answer;
+    struct bujorelm_result answer;
 
     board_demonstration(&b);
     CHECK(bujorelm_source_of(0x1A22B123u) == 0x123 && bujorelm_source_of(0xFFFFFFFFu) == 0xFFF);
@@ -1362,11 +1894,62 @@ static void test_inline_functions(void)
     b.node.description.alias = 0;
     CHECK(bujorelm_node_receive(&b.node, header_of(SINGLE, 0x22B, 0x123), read_40, 7, keep_frame, &sink, &answer));
     CHECK(sink.count == 2 && is_house(answer, BUJORELM_HOUSE_B1));
-    /* An alias that has no header. */
-    answer = (struct bujorelm_numbers){.kind = BUJORELM_ACCEPTED};
-    CHECK(!bujorelm_send_answer(0x22B, 4096, &answer, NULL, keep_frame, &sink));
-    CHECK(sink.count == 2);
+    b.node.description.alias = 0x22B;
+    /* The calls for a node leave their answer in it, and touch no more of it than the library's own do. */
+    memset(b.node.reply, UNTOUCHED, sizeof b.node.reply);
+    memset(b.node.frames, UNTOUCHED, sizeof b.node.frames);
+    CHECK(bujorelm_node_check(&b.node) == BUJORELM_HOUSE_NONE);
+    answer = bujorelm_node_handle_datagram(&b.node, (const uint8_t *)"\x20\x80", 2);
+    CHECK(is_answer(answer, BUJORELM_REPLIED, 0, 0x80, 0, 7) && memcmp(b.node.reply, "\x20\x82\xE0\x00\xF2\xFF\x10", 7) == 0);
+    CHECK(is_untouched(b.node.reply, 7, sizeof b.node.reply));
+    CHECK(is_untouched((const uint8_t *)b.node.frames, 0, sizeof b.node.frames));
+    answer = bujorelm_node_handle_frame(&b.node, header_of(SINGLE, 0x22B, 0x124), (const uint8_t *)"\x20\x80", 2);
+    CHECK(is_answer(answer, BUJORELM_REPLIED, 0, 0x80, 0, 7) && answer.frame_count == 2);
+    CHECK(b.node.frames[0].header == 0x19A2822Bu && b.node.frames[1].header == 0x1A12422Bu);
+    CHECK(is_untouched((const uint8_t *)b.node.frames, 32, sizeof b.node.frames));
+    /* No frame needs no sender. */
+    CHECK(bujorelm_send_frames(NULL, 0, keep_frame, &sink) && sink.count == 2);
     board_free(&b);
+}
+
+/* A fresh node, whatever lay there before. */
+static void test_node_start(void)
+{
+    static const uint8_t zeros[BUJORELM_POOL_SIZE];
+    uint8_t memory[DEMONSTRATION_MEMORY_SIZE] = {0};
+    struct bujorelm_node node;
+
+    memset(&node, UNTOUCHED, sizeof node);
+    bujorelm_node_start(&node, &demonstration_description, demonstration_flash, sizeof demonstration_flash, memory, sizeof memory);
+    CHECK(memcmp(&node.lock, zeros, sizeof node.lock) == 0 && memcmp(&node.reception, zeros, sizeof node.reception) == 0);
+    CHECK(memcmp(node.pool, zeros, sizeof node.pool) == 0);
+    CHECK(is_untouched(node.reply, 0, sizeof node.reply) && is_untouched((const uint8_t *)node.frames, 0, sizeof node.frames));
+    CHECK(node.description.alias == 0x22B && node.description.write_lengths == 0xF2 && node.description.count == 4);
+    CHECK(node.description.spaces == demonstration_spaces && node.flash == demonstration_flash && node.memory == memory);
+    CHECK(node.flash_len == 16 && node.memory_len == 48 && bujorelm_node_check(&node) == BUJORELM_HOUSE_NONE);
+}
+
+/* The numbers of a result, as the types that a switch takes. */
+static void test_accessors(void)
+{
+    for (unsigned number = 0; number <= 7; number++) {
+        struct bujorelm_result result = {.house = (uint8_t)number, .code = (uint16_t)(0x1080 + number)};
+
+        CHECK(bujorelm_house_of(result) == (enum bujorelm_house)number);
+        CHECK(bujorelm_code_of(result) == (enum bujorelm_code)(0x1080 + number));
+    }
+}
+
+/* The archive's version, and which versions fit which. */
+static void test_version(void)
+{
+    CHECK(bujorelm_version() == BUJORELM_VERSION && bujorelm_version_fits());
+    CHECK(bujorelm_versions_fit(0x00020000u, 0x00020000u) && bujorelm_versions_fit(0x00020000u, 0x0002FFFFu));
+    CHECK(bujorelm_versions_fit(0x00020003u, 0x00020003u) && bujorelm_versions_fit(0x00020003u, 0x0002FFFFu));
+    CHECK(!bujorelm_versions_fit(0x00020000u, 0x00030000u) && !bujorelm_versions_fit(0x00020000u, 0x0001FFFFu));
+    CHECK(!bujorelm_versions_fit(0x00020003u, 0x00020002u) && !bujorelm_versions_fit(0x00020003u, 0x00030003u));
+    CHECK(!bujorelm_versions_fit(0x00020003u, 0x00030002u) && !bujorelm_versions_fit(0x00020000u, 0));
+    CHECK(!bujorelm_versions_fit(0xFFFFFFFFu, 0) && bujorelm_versions_fit(0xFFFF0000u, 0xFFFFFFFFu));
 }
 
 /* ---- Pseudo-random calls ---- */
@@ -1434,9 +2017,12 @@ static struct draft random_draft(size_t *flash_len, size_t *memory_len)
 static size_t random_datagram(const struct draft *d, uint8_t *bytes)
 {
     static const uint8_t commands[] = {0x00, 0x01, 0x02, 0x03, 0x08, 0x09, 0x0A, 0x0B, 0x40, 0x41, 0x42,
-                                       0x43, 0x80, 0x84, 0x88, 0xA8, 0x44, 0x60, 0x50, 0xA9};
-    const uint8_t command = commands[random_below(sizeof commands)];
+                                       0x43, 0x80, 0x84, 0x88, 0xA8, 0xA8, 0x44, 0x60, 0x50, 0xA9};
+    const uint8_t drawn = commands[random_below(sizeof commands)];
     const struct bujorelm_space *const s = &d->spaces[random_below((uint32_t)d->count + 1) % BUJORELM_SPACES_MAX];
+    /* Often in the form that names this space. */
+    const uint8_t form = s->number >= 0xFD && random_below(4) != 0 ? (uint8_t)(s->number - 0xFC) : 0;
+    const uint8_t command = drawn < 0x44 && random_below(4) != 0 ? (uint8_t)((drawn & 0xFC) | form) : drawn;
     /* Inside, or up to two bytes outside. Each random number has a statement of its own, so that every compiler draws them in one order. */
     const uint32_t inside = random_below(s->highest - s->lowest + 3);
     const uint32_t below = random_below(2);
@@ -1457,7 +2043,18 @@ static size_t random_datagram(const struct draft *d, uint8_t *bytes)
             bytes[6] = s->number;
             len = 7;
         }
-        len += command >= 0x40 ? 1 : command >= 8 ? 2 * random_below(33) : random_below(65);
+        if (command >= 0x40) {
+            len += 1;
+        } else {
+            const size_t most = command >= 8 ? 32 : 64;
+            const size_t left = address >= s->lowest && address <= s->highest ? (size_t)(s->highest - address) + 1 : 1;
+            /* Of any length, or short enough for the space; every second of those in one frame, if it can be. */
+            const uint32_t sort = random_below(4);
+            const size_t bound = sort == 0 ? most : sort == 1 ? 2 : left;
+            const size_t count = sort == 0 ? random_below((uint32_t)most + 1) : 1 + random_below((uint32_t)(bound < most ? bound : most));
+
+            len += command >= 8 ? 2 * count : count;
+        }
     } else if (command == 0x84) {
         bytes[2] = s->number;
         len = 3;
@@ -1537,7 +2134,7 @@ static size_t random_frame(const struct draft *d, struct sender *sender, uint32_
 }
 
 struct expected {
-    uint8_t kind;
+    enum bujorelm_kind kind;
     uint16_t code;
     bool finished;
     size_t len;
@@ -1610,15 +2207,15 @@ static bool state_has(const struct bujorelm_node *node, uint16_t source, const s
 }
 
 /* How often each answer came, so that random frames that stopped short of one would show. */
-static unsigned long kinds_seen[BUJORELM_REPLIED + 1];
+static unsigned long kinds_seen[BUJORELM_UPDATE_COMPLETE + 1];
 static unsigned long codes_seen[9];
 static const uint16_t codes[9] = {0x1041, 0x1042, 0x1080, 0x1081, 0x1082, 0x1083, 0x2000, 0x2020, 0x2040};
 
-static void see(struct bujorelm_numbers answer, const uint8_t *reply)
+static void see(struct bujorelm_result answer, const uint8_t *reply)
 {
     uint16_t code = answer.code;
 
-    if (answer.kind > BUJORELM_REPLIED) {
+    if (answer.kind > BUJORELM_UPDATE_COMPLETE) {
         return;
     }
     kinds_seen[answer.kind]++;
@@ -1675,7 +2272,7 @@ static void random_session(unsigned long frames)
     memcpy(flash, b.flash.bytes, flash_len);
     memcpy(memory, b.memory.bytes, memory_len);
     memcpy(lock, b.node.lock.bytes, 6);
-    house = bujorelm_node_check(&b.node);
+    house = (uint8_t)bujorelm_node_check(&b.node);
     if (house == 0 && reply_len < 72) {
         house = BUJORELM_HOUSE_B6;
     }
@@ -1686,7 +2283,7 @@ static void random_session(unsigned long frames)
         uint32_t header;
         const size_t len = random_frame(&d, &senders[who], aliases[who], &header, data);
         struct bujorelm_node before;
-        struct bujorelm_numbers answer;
+        struct bujorelm_result answer;
         struct expected e;
         size_t others = 0;
         size_t written = 0;
@@ -1696,11 +2293,8 @@ static void random_session(unsigned long frames)
         memset(b.reply.bytes, UNTOUCHED, reply_len);
         if (len <= 8) {
             memcpy(payload.bytes + 8 - len, data, len);
-            answer = bujorelm_node_handle_frame(&b.node, header, payload.bytes + 8 - len, len, b.reply.bytes, reply_len);
-        } else {
-            answer = bujorelm_node_handle_frame(&b.node, header, data, len, b.reply.bytes, reply_len);
         }
-
+        answer = call_frame(&b, header, len <= 8 ? payload.bytes + 8 - len : data, len);
         see(answer, b.reply.bytes);
 
         CHECK(memcmp(b.flash.bytes, flash, flash_len) == 0);
@@ -1730,22 +2324,29 @@ static void random_session(unsigned long frames)
                 struct bujorelm_lock held;
                 uint8_t reply[80];
                 uint8_t old[256];
-                struct bujorelm_numbers whole;
+                struct bujorelm_result whole;
 
                 memcpy(held.bytes, lock, 6);
                 memcpy(old, memory, memory_len);
                 memset(reply, UNTOUCHED, sizeof reply);
                 whole = bujorelm_handle_datagram(d.alias, d.write_lengths, d.spaces, bujorelm_spaces_size(d.count), flash, flash_len,
                                                  memory, memory_len, &held, e.bytes, e.len, reply, reply_len);
-                CHECK(is_answer(answer, whole.kind, whole.house, whole.flags, whole.code, whole.reply_len));
-                CHECK(answer.kind >= BUJORELM_REJECTED && answer.kind <= BUJORELM_REPLIED);
+                CHECK(same_result(answer, whole) && whole.frame_count == 0);
+                CHECK(answer.kind >= BUJORELM_REJECTED && answer.kind <= BUJORELM_UPDATE_COMPLETE);
                 written = answer.reply_len;
                 CHECK(written <= 72 && memcmp(reply, b.reply.bytes, reply_len) == 0);
                 CHECK((answer.kind == BUJORELM_REPLIED) == (written != 0));
-                /* Only an accepted write changes memory, and only a lock command changes the lock. */
-                if (answer.kind != BUJORELM_ACCEPTED || e.bytes[1] > 0x0B) {
-                    CHECK(memcmp(memory, old, memory_len) == 0);
+                /* Only a write changes memory, where it says so and nowhere else; only a lock command changes the lock. */
+                if (answer.kind == BUJORELM_WRITTEN) {
+                    const struct range range = written_range(d.spaces, d.count, e.bytes, e.len);
+
+                    CHECK(e.bytes[1] <= 0x0B && is_written(answer, range.at, range.len));
+                    CHECK(range.len >= 1 && range.len <= BUJORELM_CHANGED_MAX && range.at + range.len <= memory_len);
+                    CHECK(is_same_outside(memory, old, memory_len, answer.changed_at, answer.changed_len));
+                } else {
+                    CHECK(memcmp(memory, old, memory_len) == 0 && answer.changed_at == 0 && answer.changed_len == 0);
                 }
+                CHECK((answer.kind == BUJORELM_UPDATE_COMPLETE) == (e.len == 2 && memcmp(e.bytes, "\x20\xA8", 2) == 0));
                 if (answer.kind != BUJORELM_REPLIED || e.bytes[1] != 0x88) {
                     CHECK(memcmp(held.bytes, lock, 6) == 0);
                 }
@@ -1773,9 +2374,12 @@ int main(int argc, char **argv)
 
     test_layout();
     test_empty_buffers();
+    test_const_overlap();
     test_session();
     test_datagrams();
     test_longest();
+    test_changed();
+    test_result_bytes();
     test_lock();
     test_left_out();
     test_house_numbers();
@@ -1788,12 +2392,18 @@ int main(int argc, char **argv)
     test_cutting();
     test_transport_replies();
     test_lines();
+    test_cuts();
+    test_carries();
+    test_line_bytes();
     test_inline_functions();
+    test_node_start();
+    test_accessors();
+    test_version();
     for (unsigned long done = 0; done < frames; done += 500) {
         random_session(500);
     }
     if (frames >= 20000) {
-        for (size_t i = 0; i <= BUJORELM_REPLIED; i++) {
+        for (size_t i = 0; i <= BUJORELM_UPDATE_COMPLETE; i++) {
             CHECK(kinds_seen[i] >= 100);
         }
         for (size_t i = 0; i < 9; i++) {

@@ -5,7 +5,7 @@
  *
  * Usage: stack LEVEL, the level of optimisation of that file
  *
- * It prints the figures that docs/DRIVER.md has, and fails where one is over the bound.
+ * It prints the figures that docs/DRIVER.md has, and fails where one is over its bound.
  */
 #define _DEFAULT_SOURCE
 
@@ -16,7 +16,7 @@
 
 #define STACK_SIZE 32768u
 
-/* No call may take more. */
+/* No call may take more, at any level of optimisation of its caller. */
 #define BOUND 1024u
 
 struct subject subject;
@@ -64,7 +64,21 @@ static void nothing(void)
 {
 }
 
-enum { HANDLE_FRAME, HANDLE_DATAGRAM, CUT, RECEIVED_OK, REJECTED, PRINT_FRAME, PARSE_LINE, NODE_RECEIVE, CALLS };
+enum {
+    HANDLE_FRAME,
+    HANDLE_DATAGRAM,
+    CUT,
+    RECEIVED_OK,
+    REJECTED,
+    PRINT_FRAME,
+    PARSE_LINE,
+    NEXT_LINE,
+    LAST_LINE,
+    VERSION,
+    NODE_CHECK,
+    NODE_RECEIVE,
+    CALLS
+};
 
 static const struct {
     const char *name;
@@ -77,6 +91,10 @@ static const struct {
     {"bujorelm_rejected", call_rejected},
     {"bujorelm_print_frame", call_print_frame},
     {"bujorelm_parse_line", call_parse_line},
+    {"bujorelm_next_line", call_next_line},
+    {"bujorelm_last_line", call_last_line},
+    {"bujorelm_version", call_version},
+    {"bujorelm_node_check", call_node_check},
     {"bujorelm_node_receive", call_node_receive},
 };
 
@@ -98,6 +116,27 @@ static void measure(size_t i)
         if (used > most[i]) {
             most[i] = used;
         }
+    }
+}
+
+/* The line splitter on the line that was just printed: whole, and cut in two at some places. */
+static void measure_lines(void)
+{
+    const size_t printed = subject.printed;
+    const size_t cuts[] = {0, 1, printed / 2, printed};
+
+    for (size_t i = 0; i < sizeof cuts / sizeof cuts[0]; i++) {
+        const size_t cut = cuts[i];
+
+        memset(&subject.carry, 0, sizeof subject.carry);
+        subject.from = 0;
+        subject.printed = cut;
+        measure(NEXT_LINE);
+        subject.carry = subject.line.carry;
+        measure(LAST_LINE);
+        subject.from = cut;
+        subject.printed = printed;
+        measure(NEXT_LINE);
     }
 }
 
@@ -165,16 +204,16 @@ static void make_datagram(uint8_t command)
 }
 
 /* Measures every call along the way of one datagram through the board. */
-static void walk(void)
+static void walk(bool lines)
 {
-    struct bujorelm_frame way[BUJORELM_FRAMES_MAX];
+    struct bujorelm_frame way[BUJORELM_SENT_MAX];
     size_t count;
 
     measure(HANDLE_DATAGRAM);
     measure(CUT);
     measure(RECEIVED_OK);
     measure(REJECTED);
-    count = bujorelm_cut(subject.datagram, subject.datagram_len, subject.node.description.alias, 0x123, way);
+    count = bujorelm_cut(subject.datagram, subject.datagram_len, 0x123, subject.node.description.alias, way);
     CHECK(count != 0);
     for (size_t i = 0; i < count; i++) {
         const struct bujorelm_node before = subject.node;
@@ -183,6 +222,9 @@ static void walk(void)
         measure(HANDLE_FRAME);
         measure(PRINT_FRAME);
         measure(PARSE_LINE);
+        if (lines) {
+            measure_lines();
+        }
         /* The same frame again, from the same state, by way of the inline function, which goes on to the next. */
         subject.node = before;
         measure(NODE_RECEIVE);
@@ -200,10 +242,12 @@ int main(int argc, char **argv)
     (void)used_with(nothing, 0x5A);
     base = used_with(nothing, 0x5A) - sizeof(void *);
     start();
+    measure(VERSION);
+    measure(NODE_CHECK);
     for (size_t turn = 0; turn < 20; turn++) {
         for (size_t i = 0; i < sizeof commands; i++) {
             make_datagram(commands[i]);
-            walk();
+            walk(turn == 0);
         }
     }
     /* Every length of a datagram. */

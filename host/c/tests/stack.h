@@ -14,9 +14,14 @@ struct subject {
     uint8_t datagram[80];
     size_t datagram_len;
     struct bujorelm_frame frame;
-    struct bujorelm_frame frames[BUJORELM_FRAMES_MAX];
-    struct bujorelm_numbers answer;
+    struct bujorelm_frame frames[BUJORELM_SENT_MAX];
+    struct bujorelm_result answer;
+    enum bujorelm_house house;
     struct bujorelm_parsed parsed;
+    struct bujorelm_carry carry;
+    struct bujorelm_line line;
+    size_t from;
+    uint32_t version;
     size_t count;
     size_t printed;
 };
@@ -30,6 +35,10 @@ void call_received_ok(void);
 void call_rejected(void);
 void call_print_frame(void);
 void call_parse_line(void);
+void call_next_line(void);
+void call_last_line(void);
+void call_version(void);
+void call_node_check(void);
 void call_node_receive(void);
 
 #endif

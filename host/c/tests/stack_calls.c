@@ -10,7 +10,7 @@ void call_handle_frame(void)
                                            subject.node.description.spaces, 16 * subject.node.description.count, subject.flash,
                                            sizeof subject.flash, subject.memory, sizeof subject.memory, &subject.node.lock,
                                            subject.node.pool, &subject.node.reception, subject.frame.header, subject.frame.bytes,
-                                           subject.frame.len, subject.reply, sizeof subject.reply);
+                                           subject.frame.len, subject.reply, sizeof subject.reply, subject.frames);
 }
 
 void call_handle_datagram(void)
@@ -23,7 +23,7 @@ void call_handle_datagram(void)
 
 void call_cut(void)
 {
-    subject.count = bujorelm_cut(subject.datagram, subject.datagram_len, 0x123, 0x22B, subject.frames);
+    subject.count = bujorelm_cut(subject.datagram, subject.datagram_len, 0x22B, 0x123, subject.frames);
 }
 
 void call_received_ok(void)
@@ -44,6 +44,26 @@ void call_print_frame(void)
 void call_parse_line(void)
 {
     subject.parsed = bujorelm_parse_line(subject.text, subject.printed == 0 ? 0 : subject.printed - 1);
+}
+
+void call_next_line(void)
+{
+    subject.line = bujorelm_next_line(subject.text, subject.printed, subject.from, subject.carry);
+}
+
+void call_last_line(void)
+{
+    subject.line = bujorelm_last_line(subject.carry);
+}
+
+void call_version(void)
+{
+    subject.version = bujorelm_version();
+}
+
+void call_node_check(void)
+{
+    subject.house = bujorelm_node_check(&subject.node);
 }
 
 /* What a driver's own function takes is not the library's. */

@@ -16,8 +16,15 @@ pub enum Answer {
     TransportRefusal(u16),
     /// Rejected with this code.
     Rejected(u16),
-    /// Received OK with flags 0x00.
-    ReceivedOk,
+    /// Received OK with flags 0x00 to a write or masked write.
+    Written {
+        /// The index into memory of the first byte written.
+        start: usize,
+        /// How many bytes are written.
+        count: usize,
+    },
+    /// Received OK with flags 0x00 to Update Complete.
+    UpdateComplete,
     /// Received OK with flags 0x80, and a reply of this many bytes.
     Replied(usize),
     /// Numbers of the library that mean nothing: an unknown kind, or a number that its kind does
@@ -25,23 +32,53 @@ pub enum Answer {
     Malformed(Numbers),
 }
 
+impl Answer {
+    /// How many frames document 01 has the board send for a frame with this answer: a reply is
+    /// cut into pieces of eight bytes, and goes behind Received OK.
+    #[must_use]
+    pub const fn frames(self) -> usize {
+        match self {
+            Self::House(_) | Self::Ignored | Self::Nothing | Self::Malformed(_) => 0,
+            Self::Replied(length) => 1 + if length <= 8 { 1 } else { length.div_ceil(8) },
+            _ => 1,
+        }
+    }
+
+    /// Whether it is the answer to a finished datagram.
+    #[must_use]
+    pub const fn is_of_datagram(self) -> bool {
+        matches!(
+            self,
+            Self::Rejected(_) | Self::Written { .. } | Self::UpdateComplete | Self::Replied(_)
+        )
+    }
+}
+
 impl From<Numbers> for Answer {
+    /// The number of frames is no part of it.
     fn from(numbers: Numbers) -> Self {
         let Numbers {
             kind,
+            code,
             house,
             flags,
-            code,
+            changed_at,
+            changed_len,
             reply_len,
+            frame_count: _,
         } = numbers;
-        match (kind, house, flags, code, reply_len) {
-            (0, 1..=7, 0, 0, 0) => Self::House(house),
-            (1, 0, 0, 0, 0) => Self::Ignored,
-            (2, 0, 0, 0, 0) => Self::Nothing,
-            (3, 0, 0, _, 0) => Self::TransportRefusal(code),
-            (4, 0, 0, _, 0) => Self::Rejected(code),
-            (5, 0, 0x00, 0, 0) => Self::ReceivedOk,
-            (6, 0, 0x80, 0, _) => Self::Replied(reply_len),
+        match (kind, house, flags, code, changed_at, changed_len, reply_len) {
+            (0, 1..=7, 0, 0, 0, 0, 0) => Self::House(house),
+            (1, 0, 0, 0, 0, 0, 0) => Self::Ignored,
+            (2, 0, 0, 0, 0, 0, 0) => Self::Nothing,
+            (3, 0, 0, _, 0, 0, 0) => Self::TransportRefusal(code),
+            (4, 0, 0, _, 0, 0, 0) => Self::Rejected(code),
+            (5, 0, 0x00, 0, _, 1..=64, 0) => Self::Written {
+                start: changed_at as usize,
+                count: usize::from(changed_len),
+            },
+            (6, 0, 0x80, 0, 0, 0, _) => Self::Replied(usize::from(reply_len)),
+            (7, 0, 0x00, 0, 0, 0, 0) => Self::UpdateComplete,
             _ => Self::Malformed(numbers),
         }
     }
@@ -52,7 +89,8 @@ impl From<Result<model::Answer, HouseNumber>> for Answer {
         match result {
             Err(house) => Self::House(house.number()),
             Ok(model::Answer::Rejected(code)) => Self::Rejected(code),
-            Ok(model::Answer::ReceivedOk) => Self::ReceivedOk,
+            Ok(model::Answer::Written { start, count }) => Self::Written { start, count },
+            Ok(model::Answer::UpdateComplete) => Self::UpdateComplete,
             Ok(model::Answer::Replied(length)) => Self::Replied(length),
         }
     }
@@ -66,6 +104,84 @@ impl From<Result<FrameAnswer, HouseNumber>> for Answer {
             Ok(FrameAnswer::Nothing) => Self::Nothing,
             Ok(FrameAnswer::TransportRefusal(code)) => Self::TransportRefusal(code),
             Ok(FrameAnswer::Handled(answer)) => Self::from(Ok(answer)),
+        }
+    }
+}
+
+#[cfg(test)]
+mod tests {
+    use super::*;
+
+    const NONE: Numbers = Numbers {
+        kind: 0,
+        code: 0,
+        house: 0,
+        flags: 0,
+        changed_at: 0,
+        changed_len: 0,
+        reply_len: 0,
+        frame_count: 0,
+    };
+
+    const fn of(kind: u32) -> Numbers {
+        Numbers { kind, ..NONE }
+    }
+
+    /// The numbers of each kind, what they say, and how many frames are sent.
+    fn good() -> [(Numbers, Answer, usize); 8] {
+        let (mut house, mut refusal, mut rejected) = (of(0), of(3), of(4));
+        (house.house, refusal.code, rejected.code) = (3, 0x2020, 0x1080);
+        let (mut written, mut replied) = (of(5), of(6));
+        (written.changed_at, written.changed_len) = (65_472, 64);
+        (replied.flags, replied.reply_len) = (0x80, 10);
+        let (start, count) = (65_472, 64);
+        [
+            (house, Answer::House(3), 0),
+            (of(1), Answer::Ignored, 0),
+            (of(2), Answer::Nothing, 0),
+            (refusal, Answer::TransportRefusal(0x2020), 1),
+            (rejected, Answer::Rejected(0x1080), 1),
+            (written, Answer::Written { start, count }, 1),
+            (replied, Answer::Replied(10), 3),
+            (of(7), Answer::UpdateComplete, 1),
+        ]
+    }
+
+    #[test]
+    fn the_numbers_of_each_kind() {
+        for (numbers, answer, frames) in good() {
+            assert_eq!(Answer::from(numbers), answer);
+            assert_eq!(answer.frames(), frames);
+        }
+    }
+
+    #[test]
+    fn numbers_that_their_kind_does_not_name_are_found() {
+        for (numbers, ..) in good() {
+            let mut spoilt = vec![numbers; 7];
+            spoilt[0].kind |= 0x100;
+            spoilt[1].flags |= 1;
+            spoilt[2].house |= 8;
+            spoilt[3].code |= 1;
+            spoilt[4].changed_at |= 1;
+            spoilt[5].changed_len |= 1;
+            spoilt[6].reply_len |= 1;
+            // Where the kind names the number, it may be another one.
+            spoilt.retain(|spoilt| match numbers.kind {
+                3 | 4 => spoilt.code == numbers.code,
+                5 => spoilt.changed_at == numbers.changed_at,
+                6 => spoilt.reply_len == numbers.reply_len,
+                _ => true,
+            });
+            assert!(spoilt.len() >= 5);
+            for numbers in spoilt {
+                assert_eq!(Answer::from(numbers), Answer::Malformed(numbers));
+            }
+        }
+        let mut written = of(5);
+        for changed_len in [0, 65, 255] {
+            written.changed_len = changed_len;
+            assert_eq!(Answer::from(written), Answer::Malformed(written));
         }
     }
 }

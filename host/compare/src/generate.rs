@@ -30,6 +30,25 @@ pub struct Board {
 }
 
 impl Board {
+    /// A board with this table of spaces.
+    #[must_use]
+    pub fn new(
+        alias: u16,
+        write_lengths: u8,
+        table: Vec<u8>,
+        flash_len: usize,
+        memory_len: usize,
+    ) -> Self {
+        Self {
+            alias,
+            write_lengths,
+            spaces: spaces_in(&table),
+            table,
+            flash_len,
+            memory_len,
+        }
+    }
+
     /// The table of spaces as the library is lent it.
     #[must_use]
     pub fn table(&self) -> &[u8] {
@@ -715,7 +734,10 @@ pub fn wide_alias(random: &mut Random) -> u16 {
 /// A line without its newline, mostly a good one or one with a single fault.
 pub fn line(random: &mut Random) -> Vec<u8> {
     if random.once_in(12) {
-        let length = random.between(0, 80);
+        let length = match random.below(4) {
+            0 => 0,
+            _ => random.between(1, 80),
+        };
         return random.bytes(length);
     }
     let digits: &[u8] = b"0123456789ABCDEF";
@@ -735,10 +757,12 @@ pub fn line(random: &mut Random) -> Vec<u8> {
     line.push(b';');
     if random.once_in(2) {
         let index = random.below(line.len());
-        match random.below(6) {
+        match random.below(7) {
             0 => {
                 line.remove(index);
             }
+            // As lines end in other systems, or one sign too many.
+            6 => line.push(random.pick(b"\r \0;0")),
             1 => line.insert(index, random.pick(b"0A;N:X \r\n")),
             2 => line[index] = random.byte(),
             3 => line[index] = line[index].to_ascii_lowercase(),

@@ -2,10 +2,12 @@
 //! made to the library and to the model and compared.
 
 pub mod answer;
+pub mod demonstration;
 pub mod ffi;
 pub mod generate;
 pub mod guarded;
 pub mod layout;
+pub mod lines;
 pub mod random;
 pub mod setup;
 pub mod small;

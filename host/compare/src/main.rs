@@ -5,6 +5,7 @@ use std::env;
 use std::process::ExitCode;
 use std::time::Instant;
 
+use compare::ffi;
 use compare::random::Random;
 use compare::tally::Tally;
 use compare::world::World;
@@ -33,6 +34,14 @@ fn main() -> ExitCode {
         return ExitCode::from(2);
     };
     println!("compare: seed {seed}, {calls} calls");
+    if ffi::version() != ffi::VERSION {
+        println!(
+            "DIFFERENCE: the library's edge has version {:08X}, expected {:08X}",
+            ffi::version(),
+            ffi::VERSION
+        );
+        return ExitCode::FAILURE;
+    }
     let started = Instant::now();
     let mut random = Random::new(seed);
     let mut tally = Tally::default();

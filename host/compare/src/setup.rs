@@ -4,13 +4,13 @@
 use std::fmt::Write;
 
 use crate::answer::Answer;
-use crate::ffi::{self, Lock, Places, Pool, PLACES, PLACE_BYTES};
+use crate::ffi::{self, Lock, Places, Pool, FRAME_SIZE, PLACES, PLACE_BYTES, SENT_SIZE};
 use crate::generate::{damage_places, rewrite_places, spoil_board, Board, Incoming};
 use crate::guarded::Guarded;
 use crate::layout::{self, TableKind};
 use crate::random::Random;
 use crate::tally::{By, Case, Tally};
-use model::{Reception, Unfinished};
+use model::{Reception, Unfinished, MOST_SENT};
 
 /// What the library is lent.
 #[derive(Clone, Debug)]
@@ -22,6 +22,7 @@ struct Library {
     places: Guarded,
     pool: Guarded,
     reply: Guarded,
+    frames: Guarded,
 }
 
 /// What the model is lent.
@@ -32,6 +33,7 @@ struct Model {
     lock: model::Lock,
     reception: Reception,
     reply: Vec<u8>,
+    frames: [model::Frame; MOST_SENT],
 }
 
 /// How things were before the call, as far as the library may change them.
@@ -41,6 +43,91 @@ struct Before {
     lock: Lock,
     places: Places,
     pool: Pool,
+}
+
+impl Library {
+    /// Makes the call for a frame.
+    fn frame(&mut self, board: &Board, frame: &Incoming) -> ffi::Numbers {
+        ffi::handle_frame(
+            board.alias,
+            board.write_lengths,
+            self.table.bytes(),
+            self.flash.bytes(),
+            self.memory.bytes_mut(),
+            self.lock.array_mut(),
+            self.pool.array_mut(),
+            self.places.array_mut(),
+            frame.header,
+            &frame.data,
+            self.reply.bytes_mut(),
+            self.frames.array_mut(),
+        )
+    }
+
+    /// Makes the call for a whole datagram.
+    fn datagram(&mut self, board: &Board, datagram: &[u8]) -> ffi::Numbers {
+        ffi::handle_datagram(
+            board.alias,
+            board.write_lengths,
+            self.table.bytes(),
+            self.flash.bytes(),
+            self.memory.bytes_mut(),
+            self.lock.array_mut(),
+            datagram,
+            self.reply.bytes_mut(),
+        )
+    }
+
+    /// Whether all guards are as they were.
+    fn is_intact(&self) -> bool {
+        let lent = [
+            &self.table,
+            &self.flash,
+            &self.memory,
+            &self.lock,
+            &self.places,
+            &self.pool,
+            &self.reply,
+            &self.frames,
+        ];
+        lent.iter().all(|lent| lent.is_intact())
+    }
+}
+
+impl Model {
+    /// Makes the call for a frame: the answer, and the number of frames to be sent.
+    fn frame(&mut self, board: &Board, frame: &Incoming) -> (Answer, usize) {
+        let answer = model::handle_frame(
+            &board.for_model(),
+            &self.flash,
+            &mut self.memory,
+            &mut self.lock,
+            &mut self.reception,
+            frame.header,
+            &frame.data,
+            &mut self.reply,
+        );
+        let count = model::frames_to_send(
+            board.alias,
+            frame.header,
+            answer,
+            &self.reply,
+            &mut self.frames,
+        );
+        (Answer::from(answer), count)
+    }
+
+    /// Makes the call for a whole datagram.
+    fn datagram(&mut self, board: &Board, datagram: &[u8]) -> Answer {
+        Answer::from(model::handle_datagram(
+            &board.for_model(),
+            &self.flash,
+            &mut self.memory,
+            &mut self.lock,
+            datagram,
+            &mut self.reply,
+        ))
+    }
 }
 
 /// A board, lent twice.
@@ -88,6 +175,7 @@ impl Setup {
             reception: for_model(&places, &pool),
             lock,
             reply: Vec::new(),
+            frames: [model::Frame::EMPTY; MOST_SENT],
             flash,
             memory,
         };
@@ -100,6 +188,7 @@ impl Setup {
                 places: Guarded::new(&places),
                 pool: Guarded::new(&pool),
                 reply: Guarded::new(&[]),
+                frames: Guarded::new(&[]),
             },
             before: Before {
                 memory: model.memory.clone(),
@@ -176,47 +265,31 @@ impl Setup {
         self.model.reply.extend_from_slice(reply);
     }
 
-    /// Makes the call for a frame to both, with a reply buffer that holds these bytes, and gives
-    /// the answer that both agree on.
+    /// Makes the call for a frame to both, with a reply buffer and room for frames that hold these
+    /// bytes, and gives the answer that both agree on.
     pub fn frame(
         &mut self,
         frame: &Incoming,
         reply: &[u8],
+        room: &[u8; SENT_SIZE],
         tally: &mut Tally,
     ) -> Result<Answer, String> {
         let finished = self.finished(frame);
         self.begin(reply);
-        let library = &mut self.library;
-        let answer = Answer::from(ffi::handle_frame(
-            self.board.alias,
-            self.board.write_lengths,
-            library.table.bytes(),
-            library.flash.bytes(),
-            library.memory.bytes_mut(),
-            library.lock.array_mut(),
-            library.pool.array_mut(),
-            library.places.array_mut(),
-            frame.header,
-            &frame.data,
-            library.reply.bytes_mut(),
-        ));
-        let model_answer = Answer::from(model::handle_frame(
-            &self.board.for_model(),
-            &self.model.flash,
-            &mut self.model.memory,
-            &mut self.model.lock,
-            &mut self.model.reception,
-            frame.header,
-            &frame.data,
-            &mut self.model.reply,
-        ));
+        self.library.frames.set(room);
+        let numbers = self.library.frame(&self.board, frame);
+        let (model_answer, model_count) = self.model.frame(&self.board, frame);
+        let answer = Answer::from(numbers);
         let done = Done {
             by: By::Frames,
             joined: frame.header >> 24 == 0x1D,
             answer,
             model_answer,
+            count: usize::from(numbers.frame_count),
+            model_count,
             finished: finished.as_deref(),
             reply,
+            room,
         };
         self.compare(&done, tally).map(|()| answer).map_err(|what| {
             let mut report = format!("call for a frame: {what}\n");
@@ -235,32 +308,17 @@ impl Setup {
         tally: &mut Tally,
     ) -> Result<(), String> {
         self.begin(reply);
-        let library = &mut self.library;
-        let answer = Answer::from(ffi::handle_datagram(
-            self.board.alias,
-            self.board.write_lengths,
-            library.table.bytes(),
-            library.flash.bytes(),
-            library.memory.bytes_mut(),
-            library.lock.array_mut(),
-            datagram,
-            library.reply.bytes_mut(),
-        ));
-        let model_answer = Answer::from(model::handle_datagram(
-            &self.board.for_model(),
-            &self.model.flash,
-            &mut self.model.memory,
-            &mut self.model.lock,
-            datagram,
-            &mut self.model.reply,
-        ));
+        let numbers = self.library.datagram(&self.board, datagram);
         let done = Done {
             by: By::Whole,
             joined: false,
-            answer,
-            model_answer,
+            answer: Answer::from(numbers),
+            model_answer: self.model.datagram(&self.board, datagram),
+            count: usize::from(numbers.frame_count),
+            model_count: 0,
             finished: Some(datagram),
             reply,
+            room: &NO_ROOM,
         };
         self.compare(&done, tally).map_err(|what| {
             let mut report = format!("call for a whole datagram: {what}\n");
@@ -270,18 +328,32 @@ impl Setup {
         })
     }
 
-    /// Compares everything after a call. The last tests are of the library alone: what document
-    /// 01 says is untouched, whatever the model does.
+    /// Compares everything after a call.
     fn compare(&mut self, done: &Done, tally: &mut Tally) -> Result<(), &'static str> {
+        self.compare_with_model(done)?;
+        if done.by == By::Frames {
+            self.compare_frames(done)?;
+        }
         let Self {
-            board,
-            library,
-            model,
-            before,
-            ..
+            library, before, ..
         } = self;
-        let answer = done.answer;
-        same(answer == done.model_answer, "the answers differ")?;
+        if matches!(done.answer, Answer::House(_) | Answer::Ignored) || done.by == By::Whole {
+            same(
+                library.places.bytes() == before.places && library.pool.bytes() == before.pool,
+                "a refused call changed the reception state",
+            )?;
+        } else {
+            compare_places(before, library, tally)?;
+        }
+        compare_memory(done.answer, before, library)?;
+        self.compare_untouched(done)?;
+        self.count(done, tally)
+    }
+
+    /// Compares with the model what a call of either sort may change.
+    fn compare_with_model(&self, done: &Done) -> Result<(), &'static str> {
+        let Self { library, model, .. } = self;
+        same(done.answer == done.model_answer, "the answers differ")?;
         same(
             library.reply.bytes() == model.reply,
             "the reply buffers differ",
@@ -291,25 +363,43 @@ impl Setup {
             "the memories differ",
         )?;
         same(library.lock.bytes() == model.lock, "the locks differ")?;
+        same(
+            done.count == done.model_count,
+            "the numbers of frames differ",
+        )
+    }
 
-        if done.by == By::Frames {
-            same(
-                in_order(layout::unfinished(
-                    library.places.array(),
-                    library.pool.bytes(),
-                )) == in_order(model.reception.unfinished()),
-                "the unfinished datagrams differ",
-            )?;
-        }
-        if matches!(answer, Answer::House(_) | Answer::Ignored) || done.by == By::Whole {
-            same(
-                library.places.bytes() == before.places && library.pool.bytes() == before.pool,
-                "a refused call changed the reception state",
-            )?;
-        } else {
-            compare_places(before, library, tally)?;
-        }
-        let written = match answer {
+    /// Compares what only the call for a frame has: the frames to be sent, whose number follows
+    /// from the answer too, and the unfinished datagrams.
+    fn compare_frames(&self, done: &Done) -> Result<(), &'static str> {
+        let Self { library, model, .. } = self;
+        same(
+            done.count == done.answer.frames(),
+            "the answer has another number of frames",
+        )?;
+        same(
+            library.frames.bytes() == done.expected_frames(model),
+            "the frames differ, or the room behind them is changed",
+        )?;
+        same(
+            in_order(layout::unfinished(
+                library.places.array(),
+                library.pool.bytes(),
+            )) == in_order(model.reception.unfinished()),
+            "the unfinished datagrams differ",
+        )
+    }
+
+    /// Tests of the library alone what document 01 says is untouched, whatever the model does.
+    fn compare_untouched(&self, done: &Done) -> Result<(), &'static str> {
+        let Self {
+            board,
+            library,
+            model,
+            before,
+            ..
+        } = self;
+        let written = match done.answer {
             Answer::Replied(length) => length,
             _ => 0,
         };
@@ -318,15 +408,7 @@ impl Setup {
             library.reply.bytes()[written..] == done.reply[written..],
             "the reply buffer is changed past the reply",
         )?;
-        if answer == Answer::ReceivedOk {
-            before.memory.copy_from_slice(library.memory.bytes());
-        } else {
-            same(
-                library.memory.bytes() == before.memory,
-                "memory is changed without a write",
-            )?;
-        }
-        if !matches!(answer, Answer::Replied(8)) {
+        if !matches!(done.answer, Answer::Replied(8)) {
             same(
                 library.lock.bytes() == before.lock,
                 "the lock is changed without 0x88",
@@ -337,20 +419,10 @@ impl Setup {
             library.table.bytes() == board.table(),
             "the table is changed",
         )?;
-        let guards = [
-            &library.table,
-            &library.flash,
-            &library.memory,
-            &library.lock,
-            &library.places,
-            &library.pool,
-            &library.reply,
-        ];
         same(
-            guards.iter().all(|lent| lent.is_intact()),
+            library.is_intact(),
             "a byte outside what was lent is changed",
-        )?;
-        self.count(done, tally)
+        )
     }
 
     /// Counts what was reached.
@@ -358,13 +430,11 @@ impl Setup {
         if !matches!(done.answer, Answer::House(_)) {
             tally.table(done.by, self.table_kind);
         }
-        if done.joined
-            && matches!(
-                done.answer,
-                Answer::Rejected(_) | Answer::ReceivedOk | Answer::Replied(_)
-            )
-        {
+        if done.joined && done.answer.is_of_datagram() {
             tally.count(Case::Joined);
+        }
+        if done.by == By::Frames {
+            tally.sent(done.count);
         }
         if self.board.spaces().len() > ffi::MOST_SPACES {
             tally.count_by(done.by, Case::TableTooLong);
@@ -415,6 +485,13 @@ impl Setup {
         }
         line("library: answer", &format!("{:X?}", done.answer));
         line("model:   answer", &format!("{:X?}", done.model_answer));
+        if done.by == By::Frames {
+            line("room before", &hex(done.room));
+            line("library: count", &done.count.to_string());
+            line("model:   count", &done.model_count.to_string());
+            line("library: frames", &hex(library.frames.bytes()));
+            line("model:   frames", &hex(&done.expected_frames(model)));
+        }
         line("library: reply", &hex(library.reply.bytes()));
         line("model:   reply", &hex(&model.reply));
         line("library: memory", &hex(library.memory.bytes()));
@@ -438,8 +515,30 @@ struct Done<'c> {
     joined: bool,
     answer: Answer,
     model_answer: Answer,
+    /// The frames to be sent.
+    count: usize,
+    model_count: usize,
     finished: Option<&'c [u8]>,
+    /// What the reply buffer held before the call.
     reply: &'c [u8],
+    /// What the room for frames held before the call.
+    room: &'c [u8; SENT_SIZE],
+}
+
+/// In the place of a room that is not lent.
+const NO_ROOM: [u8; SENT_SIZE] = [0; SENT_SIZE];
+
+impl Done<'_> {
+    /// What the room for frames holds after the call: the model's frames, and behind them what was
+    /// there.
+    fn expected_frames(&self, model: &Model) -> [u8; SENT_SIZE] {
+        let mut expected = *self.room;
+        let frames = &model.frames[..self.model_count];
+        for (room, frame) in expected.chunks_exact_mut(FRAME_SIZE).zip(frames) {
+            room.copy_from_slice(&layout::frame_bytes(frame));
+        }
+        expected
+    }
 }
 
 fn same(same: bool, what: &'static str) -> Result<(), &'static str> {
@@ -448,6 +547,29 @@ fn same(same: bool, what: &'static str) -> Result<(), &'static str> {
     } else {
         Err(what)
     }
+}
+
+/// Memory after a call, by what the library says of it and without the model: outside of the bytes
+/// that it says are written, every byte is as it was. What is written is the next call's memory
+/// before.
+fn compare_memory(
+    answer: Answer,
+    before: &mut Before,
+    library: &Library,
+) -> Result<(), &'static str> {
+    let memory = library.memory.bytes();
+    let (start, count) = match answer {
+        Answer::Written { start, count } => (start, count),
+        _ => (0, 0),
+    };
+    let end = start.saturating_add(count);
+    same(end <= memory.len(), "bytes outside memory are written")?;
+    same(
+        memory[..start] == before.memory[..start] && memory[end..] == before.memory[end..],
+        "memory is changed without a write, or outside what is written",
+    )?;
+    before.memory[start..end].copy_from_slice(&memory[start..end]);
+    Ok(())
 }
 
 /// The places after a frame that is not refused: at most one changes, that one has the canonical

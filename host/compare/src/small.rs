@@ -1,6 +1,6 @@
-//! Holds the comparison of the smaller calls: cutting, the transport replies, and lines.
+//! Holds the comparison of the smaller calls: cutting, the transport replies, and single lines.
 
-use crate::ffi::{self, Frame, FRAMES_SIZE, FRAME_SIZE};
+use crate::ffi::{self, Frame, Parsed, FRAME_SIZE, SENT_SIZE};
 use crate::generate::{line, wide_alias, LAST_ALIAS};
 use crate::guarded::Guarded;
 use crate::layout::{frame_bytes, frame_in};
@@ -20,12 +20,13 @@ const NO_FRAME: Frame = Frame {
 pub fn cut(random: &mut Random, tally: &mut Tally) -> Result<(), String> {
     let length = random.between(0, 80);
     let datagram = random.bytes(length);
-    let destination = wide_alias(random);
-    let source = wide_alias(random);
-    let mut expected = random.bytes(FRAMES_SIZE);
+    let board = wide_alias(random);
+    let tool = wide_alias(random);
+    let mut expected = random.bytes(SENT_SIZE);
     let mut frames = Guarded::new(&expected);
-    let count = ffi::cut(&datagram, destination, source, frames.array_mut());
-    let model = model::cut(&datagram, destination, source);
+    let count = ffi::cut(&datagram, board, tool, frames.array_mut());
+    // The model cuts for a destination and a source.
+    let model = model::cut(&datagram, tool, board);
     let same = match &model {
         Ok(model) => {
             tally.count(if model.len() == 1 {
@@ -51,8 +52,8 @@ pub fn cut(random: &mut Random, tally: &mut Tally) -> Result<(), String> {
         return Ok(());
     }
     Err(format!(
-        "cutting\ndatagram    {}\ndestination {destination:04X}\nsource      {source:04X}\n\
-         library     {count} {}\nexpected    {}\nmodel       {model:X?}\n",
+        "cutting\ndatagram {}\nboard    {board:04X}\ntool     {tool:04X}\n\
+         library  {count} {}\nexpected {}\nmodel    {model:X?}\n",
         hex(&datagram),
         hex(frames.bytes()),
         hex(&expected)
@@ -66,7 +67,7 @@ pub fn transport(random: &mut Random, tally: &mut Tally) -> Result<(), String> {
     let tool = wide_alias(random);
     let number = random.half();
     let positive = random.once_in(2);
-    let mut expected = [0; FRAME_SIZE];
+    let mut expected = [0; SENT_SIZE];
     random.fill(&mut expected);
     let mut frame = Guarded::new(&expected);
     let (count, model) = if positive {
@@ -87,7 +88,7 @@ pub fn transport(random: &mut Random, tally: &mut Tally) -> Result<(), String> {
         (true, false) => Case::Rejected,
     });
     if made {
-        expected = frame_bytes(&model);
+        expected[..FRAME_SIZE].copy_from_slice(&frame_bytes(&model));
     }
     if count == usize::from(made) && frame.bytes() == expected && frame.is_intact() {
         return Ok(());
@@ -100,19 +101,25 @@ pub fn transport(random: &mut Random, tally: &mut Tally) -> Result<(), String> {
     ))
 }
 
+/// Whether a line that the library read is what the model has for it. Where it is no frame line,
+/// the frame is all zero.
+#[must_use]
+pub fn is_parsed(library: Parsed, model: Option<model::Frame>) -> bool {
+    library.good.get() == model.is_some()
+        && library.frame == model.map_or(NO_FRAME, |frame| frame_in(&frame_bytes(&frame)))
+}
+
 /// Reads a line on both sides.
 pub fn parse(random: &mut Random, tally: &mut Tally) -> Result<(), String> {
     let line = line(random);
     let library = ffi::parse_line(&line);
     let model = model::parse_line(&line);
-    let same = if let Some(model) = &model {
-        tally.count(Case::LineGood);
-        library.good.get() && library.frame == frame_in(&frame_bytes(model))
+    tally.count(if model.is_some() {
+        Case::LineGood
     } else {
-        tally.count(Case::LineBad);
-        !library.good.get() && library.frame == NO_FRAME
-    };
-    if same {
+        Case::LineBad
+    });
+    if is_parsed(library, model) {
         return Ok(());
     }
     Err(format!(

@@ -70,6 +70,10 @@ cases! {
     Read1082 = "read fails 0x1082", Both;
     /// A write.
     Write = "write", Both;
+    /// A write to an index that is not its address.
+    WriteElsewhere = "write, index is not the address", Both;
+    /// A write of as many bytes as there may be.
+    WriteLongest = "write, 64 bytes", Both;
     /// A failed write.
     Write1081 = "write fails 0x1081", Both;
     /// A failed write.
@@ -80,6 +84,8 @@ cases! {
     Masked = "masked write", Both;
     /// A masked write with a mask of zero.
     MaskedByZero = "masked write, a mask 0", Both;
+    /// A masked write of as many pairs as there may be.
+    MaskedLongest = "masked write, 32 pairs", Both;
     /// A failed masked write.
     Masked1081 = "masked write fails 0x1081", Both;
     /// A failed masked write.
@@ -122,6 +128,14 @@ cases! {
     FreeKept = "place free, other bytes kept", Small;
     /// A datagram of several frames.
     Joined = "datagram finished by a Last", Small;
+    /// No frame is sent.
+    SentNone = "frames sent, none", Small;
+    /// One is sent.
+    SentOne = "frames sent, one", Small;
+    /// Some are sent.
+    SentSeveral = "frames sent, two to nine", Small;
+    /// As many as there may be are sent.
+    SentTen = "frames sent, ten", Small;
     /// A cut datagram in one frame.
     CutSingle = "cut, one frame", Small;
     /// A cut datagram in several frames.
@@ -146,6 +160,36 @@ cases! {
     PrintedNot = "frame printed, no room", Small;
     /// A frame over 8 bytes.
     PrintedLong = "frame printed, over 8 bytes", Small;
+    /// A frame line in one chunk.
+    NextGood = "next line, good in one chunk", Small;
+    /// A frame line that began in an earlier chunk.
+    NextGoodCarried = "next line, good over two chunks", Small;
+    /// Another line.
+    NextBad = "next line, bad", Small;
+    /// A line that only its carry makes too long.
+    NextTooLong = "next line, carried one is too long", Small;
+    /// No newline in the chunk.
+    NextOpen = "next line, no newline", Small;
+    /// No newline in the chunk, and more than is carried.
+    NextOpenTooLong = "next line, no newline and too long", Small;
+    /// Nothing left of the chunk.
+    NextNothing = "next line, chunk is read already", Small;
+    /// From an index behind the chunk.
+    NextBehind = "next line, from behind the chunk", Small;
+    /// A carry with a length that no text leads to.
+    NextOverfull = "next line, carry of over 29 bytes", Small;
+    /// A frame line without its newline.
+    LastGood = "last line, good", Small;
+    /// Another line without its newline.
+    LastBad = "last line, bad", Small;
+    /// Nothing is left.
+    LastNone = "last line, none", Small;
+    /// A carry with a length that no text leads to.
+    LastOverfull = "last line, carry of over 29 bytes", Small;
+    /// A session of lines in chunks.
+    Session = "session, in chunks", Small;
+    /// One whose last line lacks its newline.
+    SessionOpen = "session, last newline missing", Small;
 }
 
 /// How a datagram came.
@@ -212,10 +256,9 @@ impl Tally {
         reply: &[u8],
     ) -> bool {
         let by = by as usize;
-        if let (Some(&[_, command, ..]), Answer::ReceivedOk | Answer::Replied(_)) =
-            (datagram, answer)
-        {
-            self.commands[by][usize::from(command)] += 1;
+        if let Some(&[_, command, ..]) = datagram {
+            let done = answer.is_of_datagram() && !matches!(answer, Answer::Rejected(_));
+            self.commands[by][usize::from(command)] += u64::from(done);
         }
         let datagram = datagram.unwrap_or(&[]);
         let Some(case) = case_of(answer, datagram, lock, reply) else {
@@ -225,7 +268,35 @@ impl Tally {
         if case == Case::Masked && masked_by_zero(datagram) {
             self.cases[by][Case::MaskedByZero as usize] += 1;
         }
+        if let Answer::Written { start, count } = answer {
+            self.written(by, case, datagram, start, count);
+        }
         true
+    }
+
+    /// Counts what is to be seen of a write or masked write that is done.
+    fn written(&mut self, by: usize, case: Case, datagram: &[u8], start: usize, count: usize) {
+        let address = datagram
+            .get(2..)
+            .and_then(<[u8]>::first_chunk)
+            .map(|bytes| u32::from_be_bytes(*bytes) as usize);
+        for (is, case) in [
+            (address != Some(start), Case::WriteElsewhere),
+            (case == Case::Write && count == 64, Case::WriteLongest),
+            (case == Case::Masked && count == 32, Case::MaskedLongest),
+        ] {
+            self.cases[by][case as usize] += u64::from(is);
+        }
+    }
+
+    /// Counts how many frames are sent for a frame.
+    pub fn sent(&mut self, count: usize) {
+        self.count(match count {
+            0 => Case::SentNone,
+            1 => Case::SentOne,
+            2..=9 => Case::SentSeveral,
+            _ => Case::SentTen,
+        });
     }
 
     /// Prints the counts; false where one that has to be reached is zero.
@@ -275,12 +346,12 @@ fn case_of(answer: Answer, datagram: &[u8], lock: [u8; 6], reply: &[u8]) -> Opti
         Answer::Rejected(0x1080) => Case::Invalid,
         Answer::Rejected(0x1041) => Case::UnknownCommand,
         Answer::Rejected(0x1042) => Case::UnknownDatagram,
-        Answer::ReceivedOk => match command? {
+        Answer::Written { .. } => match command? {
             0x00..=0x03 => Case::Write,
             0x08..=0x0B => Case::Masked,
-            0xA8 => Case::UpdateComplete,
             _ => return None,
         },
+        Answer::UpdateComplete if command? == 0xA8 => Case::UpdateComplete,
         Answer::Replied(length) => {
             let reply = reply.get(..length)?;
             let code = u16::from_be_bytes(*reply.last_chunk()?);

@@ -2,8 +2,9 @@
 //! memory, lock and unfinished datagrams have a history.
 
 use crate::answer::Answer;
-use crate::ffi::PLACES_SIZE;
+use crate::ffi::{PLACES_SIZE, SENT_SIZE};
 use crate::generate::{datagram, good_board, sound_places, tools, Tool};
+use crate::lines;
 use crate::random::Random;
 use crate::setup::Setup;
 use crate::small;
@@ -43,29 +44,35 @@ impl World {
     pub fn call(&mut self, random: &mut Random, tally: &mut Tally) -> Result<(), String> {
         self.calls_left -= 1;
         match random.below(100) {
-            0..=54 => {
+            0..=52 => {
                 if random.once_in(8) {
                     self.setup.rewrite_places(random);
                 }
                 let tool = random.below(self.tools.len());
                 let frame = self.tools[tool].frame(random, self.setup.board());
-                let answer = self.setup.frame(&frame, &buffer(random, false), tally)?;
+                let reply = buffer(random, false);
+                let answer = self.setup.frame(&frame, &reply, &room(random), tally)?;
                 // Some tools go on sending, so that stray frames come too.
                 if matches!(answer, Answer::TransportRefusal(_)) && !random.once_in(4) {
                     self.tools[tool].give_up();
                 }
                 Ok(())
             }
-            55..=79 => {
+            53..=76 => {
                 let datagram = datagram(random, self.setup.board());
                 self.setup
                     .datagram(&datagram, &buffer(random, false), tally)
             }
-            80..=87 => self.spoilt_call(random, tally),
-            88..=90 => small::cut(random, tally),
-            91..=93 => small::transport(random, tally),
-            94..=97 => small::parse(random, tally),
-            _ => small::print(random, tally),
+            77..=84 => self.spoilt_call(random, tally),
+            85..=87 => small::cut(random, tally),
+            88..=90 => small::transport(random, tally),
+            91..=93 => small::parse(random, tally),
+            94 | 95 => small::print(random, tally),
+            96 | 97 => lines::next(random, tally),
+            98 => lines::last(random, tally),
+            // One of these takes as long as some ten of the others.
+            _ if random.once_in(4) => lines::session(random, tally),
+            _ => lines::next(random, tally),
         }
     }
 
@@ -88,11 +95,19 @@ impl World {
         } else {
             let index = random.below(self.tools.len());
             let frame = self.tools[index].clone().frame(random, self.setup.board());
+            let reply = buffer(random, short);
             setup
-                .frame(&frame, &buffer(random, short), tally)
+                .frame(&frame, &reply, &room(random), tally)
                 .map(|_| ())
         }
     }
+}
+
+/// What the room for frames holds before the call.
+fn room(random: &mut Random) -> [u8; SENT_SIZE] {
+    let mut room = [0; SENT_SIZE];
+    random.fill(&mut room);
+    room
 }
 
 /// What a reply buffer holds before the call.

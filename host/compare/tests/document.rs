@@ -1,107 +1,18 @@
 //! Holds what document 01 says of the demonstration board, asked of the library through its C
 //! edge: the session, and the whole datagrams.
 
-use compare::ffi::{self, Frame, Lock, Places, Pool};
-use compare::layout::frame_in;
+use compare::demonstration::Demonstration;
+use compare::ffi::{self, Carry};
 
-const ALIAS: u16 = 0x22B;
-const WRITE_LENGTHS: u8 = 0xF2;
-
-/// The table of spaces, byte by byte: number, read-only, in flash, a byte that means nothing, and
-/// lowest, highest and offset with the least significant byte first.
-const TABLE: [[u8; 16]; 4] = [
-    [0xFD, 0, 0, 0, 0, 0, 0, 0, 0x1F, 0, 0, 0, 0, 0, 0, 0],
-    [0xFE, 0, 0, 0, 0, 0, 0, 0, 0x2F, 0, 0, 0, 0, 0, 0, 0],
-    [0xFF, 1, 1, 0, 0, 0, 0, 0, 0x0F, 0, 0, 0, 0, 0, 0, 0],
-    [0x10, 0, 0, 0, 0, 1, 0, 0, 0x0F, 1, 0, 0, 32, 0, 0, 0],
-];
-
-struct Demonstration {
-    table: Vec<u8>,
-    flash: [u8; 16],
-    memory: [u8; 48],
-    lock: Lock,
-    pool: Pool,
-    places: Places,
-    reply: [u8; 72],
-}
-
-fn demonstration() -> Demonstration {
-    Demonstration {
-        table: TABLE.concat(),
-        flash: *b"<cdi/>\0\0\0\0\0\0\0\0\0\0",
-        memory: [0; 48],
-        lock: [0; 6],
-        pool: [0; ffi::POOL_BYTES],
-        places: [0; ffi::PLACES_SIZE],
-        reply: [0xEE; 72],
+/// The reply to a whole datagram, or the code of its rejection.
+fn answer(board: &mut Demonstration, datagram: &[u8]) -> Vec<u8> {
+    let numbers = board.datagram(datagram);
+    assert_eq!(numbers.frame_count, 0);
+    match numbers.kind {
+        4 => numbers.code.to_be_bytes().to_vec(),
+        6 => board.reply()[..usize::from(numbers.reply_len)].to_vec(),
+        other => panic!("kind {other}"),
     }
-}
-
-impl Demonstration {
-    fn line(&mut self, line: &[u8], out: &mut Vec<u8>) {
-        let parsed = ffi::parse_line(line);
-        if !parsed.good.get() {
-            out.extend_from_slice(b"?\n");
-            return;
-        }
-        let frame = parsed.frame;
-        let answer = ffi::handle_frame(
-            ALIAS,
-            WRITE_LENGTHS,
-            &self.table,
-            &self.flash,
-            &mut self.memory,
-            &mut self.lock,
-            &mut self.pool,
-            &mut self.places,
-            frame.header,
-            &frame.bytes[..frame.len as usize],
-            &mut self.reply,
-        );
-        let tool = (frame.header & 0xFFF) as u16;
-        let mut first = [0xEE; ffi::FRAME_SIZE];
-        let made = match answer.kind {
-            1 | 2 => return,
-            3 | 4 => ffi::rejected(ALIAS, tool, answer.code, &mut first),
-            5 | 6 => ffi::received_ok(ALIAS, tool, answer.flags, &mut first),
-            other => panic!("kind {other}, house number {}", answer.house),
-        };
-        assert_eq!(made, 1);
-        print(frame_in(&first), out);
-        if answer.kind == 6 {
-            let mut frames = [0xEE; ffi::FRAMES_SIZE];
-            let count = ffi::cut(&self.reply[..answer.reply_len], tool, ALIAS, &mut frames);
-            for frame in frames.chunks_exact(ffi::FRAME_SIZE).take(count) {
-                print(frame_in(frame.try_into().expect("sixteen bytes")), out);
-            }
-        }
-    }
-
-    /// The reply to a whole datagram, or the code of its rejection.
-    fn datagram(&mut self, datagram: &[u8]) -> Vec<u8> {
-        let answer = ffi::handle_datagram(
-            ALIAS,
-            WRITE_LENGTHS,
-            &self.table,
-            &self.flash,
-            &mut self.memory,
-            &mut self.lock,
-            datagram,
-            &mut self.reply,
-        );
-        match answer.kind {
-            4 => answer.code.to_be_bytes().to_vec(),
-            6 => self.reply[..answer.reply_len].to_vec(),
-            other => panic!("kind {other}"),
-        }
-    }
-}
-
-fn print(frame: Frame, out: &mut Vec<u8>) {
-    let mut line = [0; 29];
-    let end = ffi::print_frame(frame, &mut line, 0);
-    out.extend_from_slice(&line[..end]);
 }
 
 #[test]
@@ -127,12 +38,47 @@ nothing
 :X1A12322BN201B000000001083;
 ?
 ";
-    let mut board = demonstration();
+    let mut board = Demonstration::new();
     let mut out = Vec::new();
     for line in input.lines() {
-        board.line(line.as_bytes(), &mut out);
+        board.line(ffi::parse_line(line.as_bytes()), &mut out);
     }
     assert_eq!(String::from_utf8_lossy(&out), expected);
+    assert_eq!(
+        String::from_utf8_lossy(&model::session(input.as_bytes())),
+        expected
+    );
+    for size in 1..input.len() {
+        assert_eq!(in_chunks(input, size), expected, "chunks of {size}");
+        assert_eq!(
+            in_chunks(input.trim_end(), size),
+            expected,
+            "chunks of {size}"
+        );
+    }
+}
+
+/// What the board prints for a text that comes in chunks of this size.
+fn in_chunks(text: &str, size: usize) -> String {
+    let mut board = Demonstration::new();
+    let (mut out, mut carry) = (Vec::new(), Carry::EMPTY);
+    for chunk in text.as_bytes().chunks(size) {
+        let mut from = 0;
+        loop {
+            let line = ffi::next_line(chunk, from, carry);
+            (carry, from) = (line.carry, line.at);
+            if !line.complete.get() {
+                break;
+            }
+            board.line(line.parsed, &mut out);
+        }
+        assert_eq!(from, chunk.len());
+    }
+    let last = ffi::last_line(carry);
+    if last.complete.get() {
+        board.line(last.parsed, &mut out);
+    }
+    String::from_utf8_lossy(&out).into_owned()
 }
 
 #[test]
@@ -159,14 +105,57 @@ fn whole_datagrams() {
         ("2088000000000001", "208A000000000001"),
     ];
     for (datagram, expected) in cases {
-        let mut board = demonstration();
+        let mut board = Demonstration::new();
         assert_eq!(
-            board.datagram(&bytes(datagram)),
+            answer(&mut board, &bytes(datagram)),
             bytes(expected),
             "{datagram}"
         );
         assert_eq!(board.memory, [0; 48], "{datagram}");
     }
+}
+
+#[test]
+fn a_write_says_what_it_has_written() {
+    // The datagram, the index into memory and the number of bytes, and what is there then.
+    let cases: [(&str, u32, u8, &str); 4] = [
+        ("200100000002ABCD", 2, 2, "ABCD"),
+        ("20020000002F11", 47, 1, "11"),
+        ("20000000010E101122", 46, 2, "1122"),
+        ("20080000010110FF550F5A00FF", 33, 3, "550A00"),
+    ];
+    for (datagram, at, len, expected) in cases {
+        let mut board = Demonstration::new();
+        let numbers = board.datagram(&bytes(datagram));
+        assert_eq!((numbers.kind, numbers.flags), (5, 0), "{datagram}");
+        assert_eq!(
+            (numbers.changed_at, numbers.changed_len),
+            (at, len),
+            "{datagram}"
+        );
+        let range = at as usize..at as usize + usize::from(len);
+        assert_eq!(board.memory[range.clone()], bytes(expected), "{datagram}");
+        board.memory[range].fill(0);
+        assert_eq!(board.memory, [0; 48], "{datagram}");
+    }
+}
+
+#[test]
+fn update_complete_is_no_write() {
+    let mut board = Demonstration::new();
+    let whole = board.datagram(&bytes("20A8"));
+    let framed = board.frame(0x1A22_B123, &bytes("20A8"));
+    for (numbers, frame_count) in [(whole, 0), (framed, 1)] {
+        assert_eq!((numbers.kind, numbers.flags), (7, 0));
+        assert_eq!((numbers.changed_at, numbers.changed_len), (0, 0));
+        assert_eq!(numbers.frame_count, frame_count);
+    }
+    assert_eq!(board.memory, [0; 48]);
+}
+
+#[test]
+fn the_version_of_the_edge() {
+    assert_eq!(ffi::version(), ffi::VERSION);
 }
 
 fn bytes(digits: &str) -> Vec<u8> {

@@ -28,17 +28,23 @@ impl core::ops::Deref for Frames {
     }
 }
 
-impl Frames {
-    fn push(&mut self, frame: Frame) {
-        self.frames[self.count] = frame;
-        self.count += 1;
-    }
-}
-
 /// Cuts a datagram into the frames that carry it from source to destination.
 ///
 /// B9, and no frame, where it has more than 72 bytes or an alias is over 4,095.
 pub fn cut(datagram: &[u8], destination: u16, source: u16) -> Result<Frames, HouseNumber> {
+    let mut frames = [Frame::EMPTY; MOST_FRAMES];
+    let count = cut_into(datagram, destination, source, &mut frames)?;
+    Ok(Frames { count, frames })
+}
+
+/// The same into lent room, from its start on; gives the number of frames. What is behind them,
+/// and all of the room where B9 refuses the datagram, keeps what it had.
+pub fn cut_into(
+    datagram: &[u8],
+    destination: u16,
+    source: u16,
+    frames: &mut [Frame; MOST_FRAMES],
+) -> Result<usize, HouseNumber> {
     if datagram.len() > LONGEST_DATAGRAM || destination > LAST_ALIAS || source > LAST_ALIAS {
         return Err(HouseNumber::B9);
     }
@@ -46,21 +52,19 @@ pub fn cut(datagram: &[u8], destination: u16, source: u16) -> Result<Frames, Hou
     let frame = |kind: u32, data: &[u8]| {
         Frame::new(kind << 24 | aliases, data).expect("a piece of at most 8 bytes")
     };
-    let mut frames = Frames {
-        count: 0,
-        frames: [Frame::EMPTY; MOST_FRAMES],
-    };
     if datagram.len() <= FRAME_DATA {
-        frames.push(frame(SINGLE, datagram));
-        return Ok(frames);
+        frames[0] = frame(SINGLE, datagram);
+        return Ok(1);
     }
     let (first, mut rest) = datagram.split_at(FRAME_DATA);
-    frames.push(frame(FIRST, first));
+    frames[0] = frame(FIRST, first);
+    let mut count = 1;
     while rest.len() > FRAME_DATA {
         let (middle, left) = rest.split_at(FRAME_DATA);
-        frames.push(frame(MIDDLE, middle));
+        frames[count] = frame(MIDDLE, middle);
+        count += 1;
         rest = left;
     }
-    frames.push(frame(LAST, rest));
-    Ok(frames)
+    frames[count] = frame(LAST, rest);
+    Ok(count + 1)
 }

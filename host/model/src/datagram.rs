@@ -36,8 +36,17 @@ pub mod code {
 pub enum Answer {
     /// Rejected with this code.
     Rejected(u16),
-    /// Received OK with flags 0x00, and no reply.
-    ReceivedOk,
+    /// Received OK with flags 0x00 to a write or masked write, and no reply: `count` bytes of
+    /// memory are written from the index `start` on. In a masked write a pair writes a byte, also
+    /// where its mask keeps all of it.
+    Written {
+        /// The index into memory of the first byte written.
+        start: usize,
+        /// How many bytes are written, 1 to 64.
+        count: usize,
+    },
+    /// Received OK with flags 0x00 to Update Complete, and no reply. Nothing changes.
+    UpdateComplete,
     /// Received OK with flags 0x80, and a reply of this many bytes in the reply buffer.
     Replied(usize),
 }
@@ -171,20 +180,19 @@ impl<'d> Addressed<'d> {
             .ok_or(code::OUT_OF_BOUNDS)
     }
 
-    /// The `count` bytes from the address, all inside a writable space.
-    fn bytes_to_write<'s>(
+    /// Where in memory the `count` bytes from the address are, all inside a writable space.
+    fn range_to_write(
         &self,
         description: &Description,
-        memory: &'s mut [u8],
         count: usize,
-    ) -> Result<&'s mut [u8], u16> {
+    ) -> Result<core::ops::Range<usize>, u16> {
         let space = self.known_space(description)?;
         // 0xFF left out of the description is read-only, 0xFD and 0xFE are writable.
         if space.map_or(self.space == 0xFF, |space| space.read_only) {
             return Err(code::READ_ONLY);
         }
         space
-            .and_then(|space| space.bytes_to_write(memory, self.address, count))
+            .and_then(|space| space.range_to_write(self.address, count))
             .ok_or(code::OUT_OF_BOUNDS)
     }
 }
@@ -221,15 +229,13 @@ fn write(
     if !(1..=MOST_DATA).contains(&data.len()) {
         return Err(code::INVALID_ARGUMENT);
     }
-    Ok(
-        match command.bytes_to_write(description, memory, data.len()) {
-            Ok(bytes) => {
-                bytes.copy_from_slice(data);
-                Answer::ReceivedOk
-            }
-            Err(code) => command.fail(WRITE_FAILED, code, reply),
-        },
-    )
+    Ok(match command.range_to_write(description, data.len()) {
+        Ok(range) => {
+            memory[range.clone()].copy_from_slice(data);
+            written(&range)
+        }
+        Err(code) => command.fail(WRITE_FAILED, code, reply),
+    })
 }
 
 fn write_under_mask(
@@ -243,18 +249,25 @@ fn write_under_mask(
     if !(2..=MOST_DATA).contains(&pairs.len()) || pairs.len() % 2 != 0 {
         return Err(code::INVALID_ARGUMENT);
     }
-    Ok(
-        match command.bytes_to_write(description, memory, pairs.len() / 2) {
-            Ok(bytes) => {
-                for (byte, pair) in bytes.iter_mut().zip(pairs.chunks_exact(2)) {
-                    let (mask, data) = (pair[0], pair[1]);
-                    *byte = (*byte & !mask) | (data & mask);
-                }
-                Answer::ReceivedOk
+    Ok(match command.range_to_write(description, pairs.len() / 2) {
+        Ok(range) => {
+            let bytes = &mut memory[range.clone()];
+            for (byte, pair) in bytes.iter_mut().zip(pairs.chunks_exact(2)) {
+                let (mask, data) = (pair[0], pair[1]);
+                *byte = (*byte & !mask) | (data & mask);
             }
-            Err(code) => command.fail(WRITE_FAILED, code, reply),
-        },
-    )
+            written(&range)
+        }
+        Err(code) => command.fail(WRITE_FAILED, code, reply),
+    })
+}
+
+/// The answer to a write that has written these bytes of memory.
+const fn written(range: &core::ops::Range<usize>) -> Answer {
+    Answer::Written {
+        start: range.start,
+        count: range.end - range.start,
+    }
 }
 
 fn options(description: &Description, datagram: &[u8], reply: &mut [u8]) -> Result<Answer, u16> {
@@ -322,7 +335,7 @@ fn update_complete(datagram: &[u8]) -> Result<Answer, u16> {
     if datagram.len() != 2 {
         return Err(code::INVALID_ARGUMENT);
     }
-    Ok(Answer::ReceivedOk)
+    Ok(Answer::UpdateComplete)
 }
 
 fn reply_with(bytes: &[u8], reply: &mut [u8]) -> Answer {

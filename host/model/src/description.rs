@@ -78,17 +78,17 @@ impl Space {
         window.get(start..).filter(|bytes| !bytes.is_empty())
     }
 
-    /// The `count` bytes of a writable space from `address`; `None` where any of them is outside.
-    /// The description has been checked, so a writable space is one in memory.
-    pub(crate) fn bytes_to_write<'s>(
+    /// Where in memory the `count` bytes of a writable space from `address` are; `None` where any
+    /// of them is outside. The description has been checked, so a writable space is one in memory.
+    pub(crate) fn range_to_write(
         &self,
-        memory: &'s mut [u8],
         address: u32,
         count: usize,
-    ) -> Option<&'s mut [u8]> {
-        let window = &mut memory[self.range()];
-        let start = address.checked_sub(self.lowest)? as usize;
-        window.get_mut(start..)?.get_mut(..count)
+    ) -> Option<core::ops::Range<usize>> {
+        let window = self.range();
+        let start = window.start + address.checked_sub(self.lowest)? as usize;
+        let end = start + count;
+        (end <= window.end).then_some(start..end)
     }
 }
 

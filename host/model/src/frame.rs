@@ -20,7 +20,8 @@ pub struct Frame {
 }
 
 impl Frame {
-    pub(crate) const EMPTY: Self = Self {
+    /// A frame with header 0 and no data, as it stands in room that is not filled yet.
+    pub const EMPTY: Self = Self {
         header: 0,
         length: 0,
         bytes: [0; FRAME_DATA],
@@ -92,7 +93,9 @@ pub fn transport_reply(board: u16, tool: u16, answer: FrameAnswer) -> Option<Fra
         FrameAnswer::TransportRefusal(code) | FrameAnswer::Handled(Answer::Rejected(code)) => {
             Some(rejected_frame(board, tool, code))
         }
-        FrameAnswer::Handled(Answer::ReceivedOk) => Some(received_ok_frame(board, tool, 0x00)),
+        FrameAnswer::Handled(Answer::Written { .. } | Answer::UpdateComplete) => {
+            Some(received_ok_frame(board, tool, 0x00))
+        }
         FrameAnswer::Handled(Answer::Replied(_)) => Some(received_ok_frame(board, tool, 0x80)),
     }
 }

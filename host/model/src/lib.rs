@@ -18,8 +18,10 @@ mod house;
 mod joining;
 mod program;
 mod reception;
+mod sending;
+mod splitting;
 
-pub use cutting::{cut, Frames, MOST_FRAMES};
+pub use cutting::{cut, cut_into, Frames, MOST_FRAMES};
 pub use datagram::{code, handle_datagram, Answer, Lock, LONGEST_DATAGRAM};
 pub use demonstration::{demo_board, Board, DEMONSTRATION_DESCRIPTION};
 pub use description::{
@@ -29,5 +31,7 @@ pub use frame::{received_ok_frame, rejected_frame, transport_reply, Frame, FRAME
 pub use gridconnect::{parse_line, print_line, LONGEST_LINE};
 pub use house::HouseNumber;
 pub use joining::{handle_frame, source_of, FrameAnswer};
-pub use program::{run, Program};
+pub use program::{run, session, Program};
 pub use reception::{Reception, Unfinished, MOST_UNFINISHED};
+pub use sending::{frames_to_send, MOST_SENT};
+pub use splitting::{Line, Splitter};

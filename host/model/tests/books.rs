@@ -92,7 +92,7 @@ fn data(numbers: &mut Numbers, kind: u32) -> Vec<u8> {
 #[test]
 fn random_frames_against_the_books() {
     let mut numbers = Numbers(0x9E37_79B9_7F4A_7C15);
-    let mut seen = [0u32; 8];
+    let mut seen = [0u32; 9];
     for sources in [1, 3, 8, 9, 12, 30] {
         let mut joined = Bench::demo();
         let mut whole = Bench::demo();
@@ -146,8 +146,9 @@ fn random_frames_against_the_books() {
                 FrameAnswer::TransportRefusal(0x2020) => 3,
                 FrameAnswer::TransportRefusal(_) => 4,
                 FrameAnswer::Handled(Answer::Rejected(_)) => 5,
-                FrameAnswer::Handled(Answer::ReceivedOk) => 6,
-                FrameAnswer::Handled(Answer::Replied(_)) => 7,
+                FrameAnswer::Handled(Answer::Written { .. }) => 6,
+                FrameAnswer::Handled(Answer::UpdateComplete) => 7,
+                FrameAnswer::Handled(Answer::Replied(_)) => 8,
             }] += 1;
         }
     }

@@ -44,7 +44,7 @@ fn count_zero_is_refused_and_never_means_all() {
 #[test]
 fn the_byte_after_the_address_of_a_write_to_fd_is_data() {
     let mut board = Bench::demo();
-    assert_eq!(board.say("20010000000310"), "ok");
+    assert_eq!(board.say("20010000000310"), "written 3+1");
     let mut expected = vec![0; 48];
     expected[3] = 0x10;
     assert_eq!(board.memory, expected);
@@ -57,7 +57,7 @@ fn a_write_past_the_end_stores_nothing() {
     assert_eq!(board.memory, vec![0; 48]);
     assert_eq!(board.say("20090000001FFF11FF22"), "20190000001F1082");
     assert_eq!(board.memory, vec![0; 48]);
-    assert_eq!(board.say("20010000001E1122"), "ok");
+    assert_eq!(board.say("20010000001E1122"), "written 30+2");
     assert_eq!(board.memory[0x1E..0x21], [0x11, 0x22, 0]);
 }
 
@@ -65,8 +65,30 @@ fn a_write_past_the_end_stores_nothing() {
 fn a_mask_of_zero_keeps_the_byte() {
     let mut board = Bench::demo();
     board.memory.fill(0x3C);
-    assert_eq!(board.say("20090000000400FF 0F55 FFAA F00F"), "ok");
+    assert_eq!(board.say("20090000000400FF 0F55 FFAA F00F"), "written 4+4");
     assert_eq!(board.memory[3..9], [0x3C, 0x3C, 0x35, 0xAA, 0x0C, 0x3C]);
+}
+
+#[test]
+fn a_write_says_where_in_memory_it_wrote() {
+    // 0x10 of the demonstration board: addresses 0x100 to 0x10F are memory 32 to 47.
+    let mut board = Bench::demo();
+    assert_eq!(board.say("2000000001001011"), "written 32+1");
+    assert_eq!(board.say("20000000010C1011223344"), "written 44+4");
+    // As many bytes as pairs, also where no mask takes a bit of them.
+    assert_eq!(board.say("2008000001021000FF00FF00FF"), "written 34+3");
+    assert_eq!(board.say("20080000010F10FF11"), "written 47+1");
+    assert_eq!(board.say("20020000002F11"), "written 47+1");
+    // The same bytes through two spaces: one index.
+    let spaces = [
+        space(0xFD, 0x80, 0x8F, 3),
+        space(0x01, 0xFFFF_FFF8, 0xFFFF_FFFF, 5),
+    ];
+    let mut board = Bench::with_spaces(&spaces);
+    assert_eq!(board.say("20010000008455"), "written 7+1");
+    assert_eq!(board.say("2000FFFFFFFA0166"), "written 7+1");
+    assert_eq!(board.say("2009000000840F0A"), "written 7+1");
+    assert_eq!(board.memory[7], 0x6A);
 }
 
 #[test]
@@ -166,10 +188,13 @@ fn lengths_of_writes() {
         "rejected 1080"
     );
     assert_eq!(board.memory, vec![0; 256]);
-    assert_eq!(board.say(&format!("200100000000{}", "11".repeat(64))), "ok");
+    assert_eq!(
+        board.say(&format!("200100000000{}", "11".repeat(64))),
+        "written 0+64"
+    );
     assert_eq!(
         board.say(&format!("20000000004010{}", "22".repeat(64))),
-        "ok"
+        "written 64+64"
     );
     let expected = [vec![0x11; 64], vec![0x22; 64], vec![0; 128]].concat();
     assert_eq!(board.memory, expected);
@@ -195,11 +220,11 @@ fn lengths_of_masked_writes() {
     assert_eq!(board.memory, vec![0; 256]);
     assert_eq!(
         board.say(&format!("200900000000{}", "FF11".repeat(32))),
-        "ok"
+        "written 0+32"
     );
     assert_eq!(
         board.say(&format!("20080000002010{}", "FF22".repeat(32))),
-        "ok"
+        "written 32+32"
     );
     let expected = [vec![0x11; 32], vec![0x22; 32], vec![0; 192]].concat();
     assert_eq!(board.memory, expected);
@@ -275,7 +300,7 @@ fn below_at_and_past_the_ends_of_a_space() {
     assert_eq!(board.say("2040000001101001"), "205800000110101082");
     assert_eq!(board.say("2000000000FF10AABB"), "2018000000FF101082");
     assert_eq!(board.say("20000000010F10AABB"), "20180000010F101082");
-    assert_eq!(board.say("20000000010F10AA"), "ok");
+    assert_eq!(board.say("20000000010F10AA"), "written 47+1");
     assert_eq!(board.memory[47], 0xAA);
     assert_eq!(board.say("20000000011010AA"), "201800000110101082");
 }
@@ -292,8 +317,8 @@ fn the_last_of_all_addresses() {
     assert_eq!(board.say("2000FFFFFFFF30AABB"), "2018FFFFFFFF301082");
     assert_eq!(board.say("2008FFFFFFFF30FFAAFFBB"), "2018FFFFFFFF301082");
     assert_eq!(board.memory[0], 0);
-    assert_eq!(board.say("2000FFFFFFFF30AA"), "ok");
-    assert_eq!(board.say("2000FFFFFFFE30BBCC"), "ok");
+    assert_eq!(board.say("2000FFFFFFFF30AA"), "written 31+1");
+    assert_eq!(board.say("2000FFFFFFFE30BBCC"), "written 30+2");
     assert_eq!(board.memory[30..32], [0xBB, 0xCC]);
     assert_eq!(board.say("2041FFFFFFFF01"), "2059FFFFFFFF1082");
     assert_eq!(board.say("2001FFFFFFFF0102"), "2019FFFFFFFF1082");
@@ -303,10 +328,10 @@ fn the_last_of_all_addresses() {
 #[test]
 fn one_space_by_low_bits_and_by_byte_6() {
     let mut board = Bench::demo();
-    assert_eq!(board.say("200200000005AB"), "ok");
+    assert_eq!(board.say("200200000005AB"), "written 5+1");
     assert_eq!(board.say("20420000000501"), "205200000005AB");
     assert_eq!(board.say("204000000005FE01"), "205000000005FEAB");
-    assert_eq!(board.say("200000000005FECD"), "ok");
+    assert_eq!(board.say("200000000005FECD"), "written 5+1");
     assert_eq!(board.say("20420000000501"), "205200000005CD");
     assert_eq!(board.say("200000000000FF01"), "201800000000FF1083");
 }
@@ -322,7 +347,7 @@ fn overlapping_windows() {
     let mut board = Bench::with_spaces(&spaces);
     assert_eq!(board.say("20030000000011"), "201B000000001083");
     assert_eq!(board.say("2000000010000111"), "201800001000011083");
-    assert_eq!(board.say("20000000002202AABB"), "ok");
+    assert_eq!(board.say("20000000002202AABB"), "written 4+2");
     assert_eq!(board.say("20430000000002"), "205300000000AABB");
     assert_eq!(board.say("2040000010040102"), "20500000100401AABB");
     assert_eq!(board.say("2040000000200240").len(), 2 * 23);
@@ -344,7 +369,7 @@ fn empty_flash_and_memory() {
     board.memory.clear();
     assert_eq!(board.say("20410000000001"), "2059000000001082");
     assert_eq!(board.say("2080"), "2082E000F2FFFD");
-    assert_eq!(board.say("20A8"), "ok");
+    assert_eq!(board.say("20A8"), "update complete");
     let mut board = Bench::with_spaces(&[in_flash(space(0xFF, 0, 15, 0))]);
     board.memory.clear();
     assert_eq!(board.say("20430000000001"), "2053000000003C");
@@ -354,7 +379,7 @@ fn empty_flash_and_memory() {
 fn whole_memory_of_65536_bytes() {
     let mut board = Bench::with_spaces(&[space(0xFD, 0, 0xFFFF, 0)]);
     board.memory = vec![0; 65_536];
-    assert_eq!(board.say("20010000FFFF77"), "ok");
+    assert_eq!(board.say("20010000FFFF77"), "written 65535+1");
     assert_eq!(board.memory[65_535], 0x77);
     assert_eq!(board.say("20410000FFFF02"), "20510000FFFF77");
     assert_eq!(board.say("20410001000001"), "2059000100001082");
@@ -398,7 +423,7 @@ fn the_lock() {
     assert_eq!(board.lock, [1, 2, 3, 4, 5, 6]);
     assert_eq!(board.say("2088090909090909"), "208A010203040506");
     // The lock changes nothing else.
-    assert_eq!(board.say("20010000000011"), "ok");
+    assert_eq!(board.say("20010000000011"), "written 0+1");
     assert_eq!(board.say("20410000000001"), "20510000000011");
     assert_eq!(board.say("2088000000000000"), "208A000000000000");
     assert_eq!(board.lock, [0; 6]);
@@ -412,7 +437,7 @@ fn the_lock() {
 
 #[test]
 fn update_complete() {
-    assert_eq!(fresh("20A8"), "ok");
+    assert_eq!(fresh("20A8"), "update complete");
     assert_eq!(fresh("20A800"), "rejected 1080");
 }
 

@@ -4,8 +4,8 @@ mod common;
 
 use common::{hex, Bench};
 use model::{
-    cut, parse_line, print_line, received_ok_frame, rejected_frame, transport_reply, Answer, Frame,
-    FrameAnswer, HouseNumber, LONGEST_LINE,
+    cut, cut_into, parse_line, print_line, received_ok_frame, rejected_frame, transport_reply,
+    Answer, Frame, FrameAnswer, HouseNumber, LONGEST_LINE, MOST_FRAMES,
 };
 
 fn text(frame: &Frame) -> String {
@@ -67,6 +67,33 @@ fn what_is_cut_is_joined_again() {
 }
 
 #[test]
+fn lent_room_behind_the_frames_keeps_what_it_had() {
+    let other = Frame::new(0x1234_5678, &[9; 5]).unwrap();
+    let bytes: Vec<u8> = (0..80).collect();
+    for length in 0..=80 {
+        let mut room = [other; MOST_FRAMES];
+        let count = cut_into(&bytes[..length], 0x123, 0x22B, &mut room);
+        let made = cut(&bytes[..length], 0x123, 0x22B);
+        match (count, made) {
+            (Ok(count), Ok(made)) => {
+                assert_eq!(room[..count], made[..]);
+                assert!(room[count..].iter().all(|frame| *frame == other));
+            }
+            (count, made) => {
+                assert!(length > 72);
+                assert_eq!(count, Err(HouseNumber::B9));
+                assert_eq!(made, Err(HouseNumber::B9));
+                assert_eq!(room, [other; MOST_FRAMES]);
+            }
+        }
+    }
+    let mut room = [other; MOST_FRAMES];
+    assert_eq!(cut_into(&[], 4_096, 2, &mut room), Err(HouseNumber::B9));
+    assert_eq!(cut_into(&[], 1, 4_096, &mut room), Err(HouseNumber::B9));
+    assert_eq!(room, [other; MOST_FRAMES]);
+}
+
+#[test]
 fn b9() {
     assert_eq!(cut(&[0; 73], 1, 2), Err(HouseNumber::B9));
     assert_eq!(cut(&[], 4_096, 2), Err(HouseNumber::B9));
@@ -102,7 +129,11 @@ fn transport_replies() {
         ":X19A4822BN00011080;"
     );
     assert_eq!(
-        reply(FrameAnswer::Handled(Answer::ReceivedOk)).unwrap(),
+        reply(FrameAnswer::Handled(Answer::Written { start: 7, count: 1 })).unwrap(),
+        ":X19A2822BN000100;"
+    );
+    assert_eq!(
+        reply(FrameAnswer::Handled(Answer::UpdateComplete)).unwrap(),
         ":X19A2822BN000100;"
     );
     assert_eq!(

@@ -47,7 +47,7 @@ fn refused(spaces: &[Space], house_number: HouseNumber) {
 fn accepted(spaces: &[Space]) {
     assert_eq!(
         Bench::with_spaces(spaces).datagram(&hex("20A8")),
-        Ok(Answer::ReceivedOk)
+        Ok(Answer::UpdateComplete)
     );
 }
 
@@ -64,7 +64,7 @@ fn b1_alias() {
     for alias in [1, 2, 0x22B, 4_094, 4_095] {
         let mut bench = Bench::demo();
         bench.alias = alias;
-        assert_eq!(bench.datagram(&hex("20A8")), Ok(Answer::ReceivedOk));
+        assert_eq!(bench.datagram(&hex("20A8")), Ok(Answer::UpdateComplete));
     }
     for alias in [0, 4_096, 65_535] {
         let mut bench = Bench::demo();
@@ -78,7 +78,7 @@ fn b1_memory_and_flash() {
     let mut bench = Bench::demo();
     bench.memory = vec![0; 65_536];
     bench.flash = vec![0; 65_536];
-    assert_eq!(bench.datagram(&hex("20A8")), Ok(Answer::ReceivedOk));
+    assert_eq!(bench.datagram(&hex("20A8")), Ok(Answer::UpdateComplete));
     bench.memory.push(0);
     assert_refused(&bench, B1);
     bench.memory.pop();
@@ -178,7 +178,7 @@ fn b6_reply_buffer() {
     }
     let mut bench = Bench::demo();
     bench.reply.truncate(72);
-    assert_eq!(bench.datagram(&hex("20A8")), Ok(Answer::ReceivedOk));
+    assert_eq!(bench.datagram(&hex("20A8")), Ok(Answer::UpdateComplete));
 }
 
 #[test]
@@ -231,7 +231,7 @@ fn sound_states_at_their_limits() {
     assert_eq!(bench.reception.check(), Ok(()));
     assert_eq!(
         bench.frame(single(0x123), &hex("20A8")),
-        Ok(FrameAnswer::Handled(Answer::ReceivedOk))
+        Ok(FrameAnswer::Handled(Answer::UpdateComplete))
     );
     assert_eq!(bench.frame(first(0x123), &[]), Ok(FrameAnswer::Nothing));
     assert_eq!(bench.kept().len(), 5);

@@ -25,13 +25,15 @@ fn send(board: &mut Bench, header: u32, data: &[u8]) -> FrameAnswer {
     answer
 }
 
+/// The answer to a write of `count` bytes of memory from index `start` on.
+const fn written(start: usize, count: usize) -> FrameAnswer {
+    Handled(Answer::Written { start, count })
+}
+
 #[test]
 fn a_single_is_a_whole_datagram() {
     let mut board = Bench::demo();
-    assert_eq!(
-        send(&mut board, single(1), &WRITE),
-        Handled(Answer::ReceivedOk)
-    );
+    assert_eq!(send(&mut board, single(1), &WRITE), written(2, 1));
     assert_eq!(board.memory[2], 0xAB);
     assert_eq!(
         send(&mut board, single(1), &[]),
@@ -56,10 +58,7 @@ fn first_middle_last_are_joined_in_order() {
     assert_eq!(send(&mut board, middle(1), &hex("000000")), Nothing);
     assert_eq!(send(&mut board, middle(1), &hex("04")), Nothing);
     assert_eq!(board.kept(), [(1, hex("200100000004"))]);
-    assert_eq!(
-        send(&mut board, last(1), &hex("1122")),
-        Handled(Answer::ReceivedOk)
-    );
+    assert_eq!(send(&mut board, last(1), &hex("1122")), written(4, 2));
     assert_eq!(board.memory[3..7], [0, 0x11, 0x22, 0]);
     assert!(board.kept().is_empty());
 }
@@ -78,14 +77,17 @@ fn frames_of_no_bytes() {
     assert_eq!(send(&mut board, first(1), &[]), Nothing);
     assert_eq!(
         send(&mut board, last(1), &hex("20A8")),
-        Handled(Answer::ReceivedOk)
+        Handled(Answer::UpdateComplete)
     );
     assert_eq!(send(&mut board, first(1), &[]), Nothing);
     assert_eq!(send(&mut board, first(1), &[]), TransportRefusal(0x2040));
     assert!(board.kept().is_empty());
     // A Last of no bytes ends what is there.
     assert_eq!(send(&mut board, first(1), &hex("20A8")), Nothing);
-    assert_eq!(send(&mut board, last(1), &[]), Handled(Answer::ReceivedOk));
+    assert_eq!(
+        send(&mut board, last(1), &[]),
+        Handled(Answer::UpdateComplete)
+    );
     // An empty Middle drops; with none unfinished it is refused too.
     assert_eq!(send(&mut board, first(1), &hex("20A8")), Nothing);
     assert_eq!(send(&mut board, middle(1), &[]), TransportRefusal(0x2040));
@@ -116,10 +118,7 @@ fn frames_out_of_order() {
             send(&mut board, last(1), &hex("00")),
             TransportRefusal(0x2040)
         );
-        assert_eq!(
-            send(&mut board, single(1), &WRITE),
-            Handled(Answer::ReceivedOk)
-        );
+        assert_eq!(send(&mut board, single(1), &WRITE), written(2, 1));
         assert_eq!(board.kept(), [(2, hex("20"))]);
     }
 }
@@ -188,10 +187,7 @@ fn the_eighth_and_the_ninth_source() {
     assert_eq!(send(&mut board, middle(9), &[]), TransportRefusal(0x2040));
     assert_eq!(board.kept(), full);
     // A Single needs no room.
-    assert_eq!(
-        send(&mut board, single(9), &WRITE),
-        Handled(Answer::ReceivedOk)
-    );
+    assert_eq!(send(&mut board, single(9), &WRITE), written(2, 1));
     // A First from one of the eight is out of order, not without room; it frees the room.
     assert_eq!(
         send(&mut board, first(4), &[0x20]),
@@ -251,7 +247,7 @@ fn interleaved_sources_are_kept_apart() {
     }
     for source in [3, 1, 0, 7, 5, 6, 4, 2] {
         let answer = send(&mut board, last(source), &[source as u8 + 0x10]);
-        assert_eq!(answer, Handled(Answer::ReceivedOk));
+        assert_eq!(answer, written(0, 4));
         let one = source as u8 + 1;
         assert_eq!(board.memory[..5], [one, one, one, source as u8 + 0x10, 0]);
     }
@@ -264,11 +260,11 @@ fn source_zero_and_the_last_source() {
         assert_eq!(send(&mut board, first(source), &hex("20")), Nothing);
         assert_eq!(
             send(&mut board, last(source), &hex("A8")),
-            Handled(Answer::ReceivedOk)
+            Handled(Answer::UpdateComplete)
         );
         assert_eq!(
             send(&mut board, single(source), &hex("20A8")),
-            Handled(Answer::ReceivedOk)
+            Handled(Answer::UpdateComplete)
         );
     }
 }
@@ -305,7 +301,7 @@ fn what_is_ignored() {
     assert_eq!(board.kept(), [(0x123, hex("2001"))]);
     assert_eq!(
         send(&mut board, last(0x123), &hex("0000000255")),
-        Handled(Answer::ReceivedOk)
+        written(2, 1)
     );
     assert_eq!(board.memory[2], 0x55);
 }
@@ -325,7 +321,7 @@ fn the_order_of_the_places_does_not_matter() {
             send(&mut board, first(9), &[0x20]),
             TransportRefusal(0x2020)
         );
-        assert_eq!(send(&mut board, last(5), &[5]), Handled(Answer::ReceivedOk));
+        assert_eq!(send(&mut board, last(5), &[5]), written(3, 2));
         assert_eq!(board.memory[3..5], [1, 5]);
         assert_eq!(send(&mut board, first(9), &[0x20]), Nothing);
         let sources: Vec<u16> = board.kept().iter().map(|kept| kept.0).collect();

@@ -4,7 +4,7 @@
 use std::io::{self, BufRead, BufReader, Read, Write};
 use std::process::{Child, ChildStdin, Command, Stdio};
 
-use model::run;
+use model::{run, session, Program};
 
 const INPUT: &str = "\
 :X1A22B123N200100000002ABCD;
@@ -121,6 +121,51 @@ fn a_long_reply_is_cut() {
 :X1D12322BN00000000000000;
 ";
     assert_eq!(answers(":X1A22B123N204000000000FF40;\n", 100), output);
+}
+
+fn whole(input: impl AsRef<[u8]>) -> String {
+    String::from_utf8(session(input.as_ref())).unwrap()
+}
+
+#[test]
+fn a_session_is_the_output_for_a_whole_text() {
+    assert_eq!(whole(INPUT), OUTPUT);
+    assert_eq!(whole(INPUT.trim_end()), OUTPUT);
+    assert_eq!(whole(""), "");
+    assert_eq!(whole("\n"), "?\n");
+    assert_eq!(whole("\n\n"), "?\n?\n");
+    assert_eq!(whole("x"), "?\n");
+    assert_eq!(whole("x\n"), "?\n");
+    assert_eq!(whole("x\n\ny"), "?\n?\n?\n");
+    assert_eq!(
+        whole(":X1A22B123N20A8;\n:X1A22B124N20A8;"),
+        ":X19A2822BN012300;\n:X19A2822BN012400;\n"
+    );
+    // A fresh board each time.
+    assert_eq!(whole(INPUT), OUTPUT);
+}
+
+#[test]
+fn a_session_is_the_same_in_chunks_cut_anyhow() {
+    let overlong = format!(":X1A22B123N20A8;{}\n", "0".repeat(70));
+    let text = format!("{INPUT}\n{overlong}x\n:X1A22B123N2080;\r\n{INPUT}:X1A22B123N2080;");
+    let text = text.as_bytes();
+    let expected = session(text);
+    for size in 1..=text.len() {
+        let (mut program, mut out) = (Program::new(), Vec::new());
+        for chunk in text.chunks(size) {
+            program.feed(chunk, &mut out);
+        }
+        program.finish(&mut out);
+        assert_eq!(out, expected, "chunks of {size}");
+    }
+    for at in 0..=text.len() {
+        let (mut program, mut out) = (Program::new(), Vec::new());
+        program.feed(&text[..at], &mut out);
+        program.feed(&text[at..], &mut out);
+        program.finish(&mut out);
+        assert_eq!(out, expected, "cut at {at}");
+    }
 }
 
 /// Gives its parts one by one, and checks that all earlier answers were written before each read.

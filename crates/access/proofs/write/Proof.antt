@@ -4,7 +4,7 @@ use mathlib.Core.Path.{sym, _∙_}
 use mathlib.Core.Bool.{true}
 use lib.ListN.{length}
 use Rattle.access.specs.Access.{storeBytes}
-use Rattle.access.proofs.Laws.{reached, found-access, write-fails, write-reaches, writes-fit}
+use Rattle.access.proofs.Laws.{reached, found-access, write-fails, write-reaches, bytes-within, writes-fit}
 use borrow.Author.Needs.{needs}
 use Rattle.access.proofs.write.Statement.{statement}
 use Rattle.access.proofs.write.Tie as tie
@@ -12,7 +12,7 @@ use Rattle.access.proofs.write.Tie as tie
 returns : tie.Need-returns
 returns c =
     let a = c .before .before .before .before .before .before .before .before .before .before .before .before .before .args in (
-      write-fails (storeBytes (a .bytes .now)) (a .form) (a .number) (a .address) (a .memory .now)
+      write-fails (storeBytes (a .bytes .now)) (a .form) (a .number) (a .address) (length (a .bytes .now)) (a .memory .now)
           (found-access true (a .address) (length (a .bytes .now)) (c .before .before .before .before .before .before .before .before .find-space .ensures) (c .before .before .before .before .before .before .before .reach .ensures) (c .before .before .before .before .before .access .given .1)) (c .before .before .failed-write .ensures),
       writes-fit,
     )
@@ -25,7 +25,7 @@ sub-index c =
 returns-2 : tie.Need-returns-2
 returns-2 c =
     let a = c .before .before .before .before .before .before .before .before .before .before .before .before .before .before .before .args in (
-      write-reaches (storeBytes (a .bytes .now)) (a .form) (a .number) (a .address) (a .memory .now)
+      write-reaches (storeBytes (a .bytes .now)) (a .form) (a .number) (a .address) (length (a .bytes .now)) (a .memory .now) (bytes-within (a .bytes .now) (a .memory .now))
           (found-access true (a .address) (length (a .bytes .now)) (c .before .before .before .before .before .before .before .before .before .before .find-space .ensures) (c .before .before .before .before .before .before .before .before .before .reach .ensures) (c .before .before .before .before .before .before .before .access2 .given .1)) (c .before .before .put .ensures),
       writes-fit,
     )

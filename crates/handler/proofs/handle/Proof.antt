@@ -4,15 +4,18 @@ use mathlib.Core.Path.{_≡_, refl, sym, ap, _∙_}
 use Rattle.command.specs.Decoding.{readingOf}
 use Rattle.command.proofs.Laws.{AllowedIn, allowed}
 use Rattle.handler.specs.Performing.{handle}
+use Rattle.handler.proofs.Laws.{handle-bounds}
 use borrow.Author.Needs.{needs}
 use Rattle.handler.proofs.handle.Statement.{statement}
 use Rattle.handler.proofs.handle.Tie as tie
 
 returns : tie.Need-returns
 unfolding handle
-returns c =
-    rw (← c .before .before .before .decode .ensures, c .before .decoded .given .1)
-    (record { answer = record { answer = refl; buffer = refl }; memory = refl; lock = refl; short = tt })
+returns c = (
+  rw (← c .before .before .before .decode .ensures, c .before .decoded .given .1)
+      (record { answer = record { answer = refl; buffer = refl }; memory = refl; lock = refl; short = tt }),
+  handle-bounds,
+)
 
 perform-requires : tie.Need-perform-requires
 perform-requires c κs =
@@ -22,7 +25,10 @@ perform-requires c κs =
 
 returns-2 : tie.Need-returns-2
 unfolding handle
-returns-2 c = rw (← c .before .before .before .before .before .before .before .before .before .before .before .decode .ensures, c .before .before .before .before .before .before .before .before .before .decoded2 .given .1) (c .before .before .before .before .perform .ensures)
+returns-2 c = (
+  rw (← c .before .before .before .before .before .before .before .before .before .before .before .decode .ensures, c .before .before .before .before .before .before .before .before .before .decoded2 .given .1) (c .before .before .before .before .perform .ensures),
+  handle-bounds,
+)
 
 pub handle-spec : {M : Type 1} → statement M
 handle-spec =

@@ -21,7 +21,7 @@ module _ (carry : Carry) (part : List ℕ) (n k : ℕ) (t u : List ℕ) (full : 
   begun : take n (carry .text) ≡ begunOf carry
   begun = rw (en, ← full) (take-more (carry .len) (carry .text))
 
-  appended : record { len = n + k; text = u } ≡ carryWith (begunOf carry ++ part)
+  appended : record { len = n + k; text = u; spare = replicate 2 0 } ≡ carryWith (begunOf carry ++ part)
   appended =
       let ln : length (take n (carry .text)) ≡ n = length-take-le n (carry .text) (omega arith) in
       let lk : length (take k part) ≡ k = length-take-le k part (omega arith) in

@@ -9,8 +9,8 @@ use Rattle.reception.specs.Reception.{receive}
 use Rattle.reception.specs.PlaceBytes.{stateIn}
 use Rattle.reception.proofs.ByteLaws.{renewed-same}
 use Rattle.handler.specs.Performing.{fixed, contents}
-use Rattle.handler.proofs.Laws.{house-buffer}
-use Rattle.node.proofs.FrameLaws.{call-refused, call-joined, call-keeps, node-order}
+use Rattle.datagram.proofs.Laws.{house-buffer}
+use Rattle.node.proofs.FrameLaws.{call-refused, call-joined, call-keeps, call-small, call-changes, node-order}
 use borrow.Author.Needs.{needs}
 use Rattle.node.proofs.handle_frame.Statement.{statement}
 use Rattle.node.proofs.handle_frame.Tie as tie
@@ -22,7 +22,7 @@ returns c =
     let x = fixed (a .alias) (a .write-lengths) (spacesIn (a .spaces .now)) (a .flash .now) in
     let e = call-refused x (a .out .now) (stateIn (a .places .now) (a .pool .now)) (contents (a .memory .now) (a .lock .now)) (canFrame (a .header) (a .payload .now)) (k .ensures)
     (tested-bad (k .result) (c .before .is-good .ensures) (c .if1 .taken)) in
-    (rw e (record { answer = refl; reply = refl; memory = refl; lock = refl }), (rw e (record { places = refl; renewal = renewed-same (a .places .now); pool = refl }), node-order x))
+    (rw e (record { answer = refl; reply = refl; memory = refl; lock = refl; short = tt }), (rw e (record { places = refl; renewal = renewed-same (a .places .now); pool = refl }), (tt, (refl, node-order x))))
 
 answer-outcome-requires : tie.Need-answer-outcome-requires
 answer-outcome-requires c κs =
@@ -41,8 +41,9 @@ returns-2 c =
     let w = contents (a .memory .now) (a .lock .now) in
     let f = canFrame (a .header) (a .payload .now) in
     let g = ap isGood (sym (k .ensures)) ∙ tested-good (k .result) (c .before .before .before .before .before .before .before .before .before .before .before .before .before .before .is-good .ensures) (c .before .before .before .before .before .before .before .before .before .before .before .before .before .if1 .left) in
+    let p = c .before .before .before .before .answer-outcome .ensures (receive (a .alias) st f .state) in
     let j = c .before .before .before .before .before .before .before .before .before .before .join .ensures in
-    (rw (call-joined x (a .out .now) st w f g j) (c .before .before .before .before .answer-outcome .ensures (receive (a .alias) st f .state)), (call-keeps x (a .out .now) st w f g j, node-order x))
+    (rw (call-joined x (a .out .now) st w f g j) p, (call-keeps x (a .out .now) st w f g j, (call-small x (a .out .now) st w f g j p, (call-changes x (a .out .now) st w f g j p, node-order x))))
 
 pub handle-frame-spec : {M : Type 1} → statement M
 handle-frame-spec =

@@ -8,6 +8,7 @@ use borrow.Author.Needs.{needs}
 use Rattle.reception.specs.PlaceBytes.{placesIn}
 use Rattle.reception.proofs.ByteLaws.{places-length}
 use Rattle.places.proofs.SearchLaws.{Passed, turn, looked-bad, looked-done}
+use Rattle.places.proofs.IdleLaws.{none-found}
 use Rattle.places.proofs.look_up.Statement.{statement}
 use Rattle.places.proofs.look_up.Tie as tie
 
@@ -22,25 +23,30 @@ loop-holds c = (search needs, search needs, tt, refl)
 
 returns : tie.Need-returns Inv-loop μ-loop
 returns c =
+    let a = c .before .before .args in
+    none-found (a .source) (placesIn (a .places .now)) (places-length (a .places .now)) (c .before .is-idle .ensures (c .if1 .taken))
+
+returns-2 : tie.Need-returns-2 Inv-loop μ-loop
+returns-2 c =
     let e = c .before .before .before in
-    let a = e .before .args in
+    let a = e .before .before .before .args in
     ⊎-elim (λ t. looked-bad (a .source) (placesIn (a .places .now)) (t .1)) (λ t. absurd (omega arith))
     (turn (a .source) (placesIn (a .places .now)) (e .loop .i) (places-length (a .places .now)) (omega arith) (e .loop .found) (c .before .next-found .result) (e .loop .inv) (c .before .next-found .ensures))
 
 loop-again : tie.Need-loop-again Inv-loop μ-loop
 loop-again c =
     let e = c .before .before .before in
-    let a = e .before .args in
-    ⊎-elim (λ t. absurd (c .if1 .left (t .0))) (λ t. t)
+    let a = e .before .before .before .args in
+    ⊎-elim (λ t. absurd (c .if2 .left (t .0))) (λ t. t)
     (turn (a .source) (placesIn (a .places .now)) (e .loop .i) (places-length (a .places .now)) (omega arith) (e .loop .found) (c .before .next-found .result) (e .loop .inv) (c .before .next-found .ensures))
 
-returns-2 : tie.Need-returns-2 Inv-loop μ-loop
-returns-2 c =
+returns-3 : tie.Need-returns-3 Inv-loop μ-loop
+returns-3 c =
     let e = c .before in
-    let a = e .before .args in
+    let a = e .before .before .before .args in
     looked-done (a .source) (placesIn (a .places .now)) (e .loop .i) (e .loop .found) (places-length (a .places .now)) (omega arith) (e .loop .inv)
 
 pub look-up-spec : {M : Type 1} → statement M
 look-up-spec =
     tie.close
-    (tie.spec Inv-loop μ-loop loop-holds (λ c κs. search needs) returns (λ c. omega arith) (λ c. omega arith) loop-again returns-2)
+    (tie.spec Inv-loop μ-loop (λ c κs. search needs) returns loop-holds (λ c κs. search needs) returns-2 (λ c. omega arith) (λ c. omega arith) loop-again returns-3)

@@ -113,7 +113,8 @@ impl Bench {
         )
     }
 
-    /// Sends a datagram and gives the answer as text: `rejected 1080`, `ok`, or the reply in hex.
+    /// Sends a datagram and gives the answer as text: `rejected 1080`, `written 3+2` for two bytes
+    /// of memory from index 3 on, `update complete`, or the reply in hex.
     /// Holds the rules about what stays untouched to it.
     pub fn say(&mut self, datagram: &str) -> String {
         let before = self.clone();
@@ -125,10 +126,20 @@ impl Bench {
                 assert!(self.reply.iter().all(|&byte| byte == FILL));
                 format!("rejected {code:04X}")
             }
-            Answer::ReceivedOk => {
+            Answer::Written { start, count } => {
                 assert_eq!(self.lock, before.lock);
                 assert!(self.reply.iter().all(|&byte| byte == FILL));
-                "ok".to_string()
+                assert!((1..=64).contains(&count));
+                let mut outside = self.memory.clone();
+                outside[start..start + count].copy_from_slice(&before.memory[start..start + count]);
+                assert_eq!(outside, before.memory);
+                format!("written {start}+{count}")
+            }
+            Answer::UpdateComplete => {
+                assert_eq!(self.memory, before.memory);
+                assert_eq!(self.lock, before.lock);
+                assert!(self.reply.iter().all(|&byte| byte == FILL));
+                "update complete".to_string()
             }
             Answer::Replied(length) => {
                 assert!(length <= 72);

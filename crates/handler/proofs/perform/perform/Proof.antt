@@ -21,15 +21,21 @@ returns-2 : tie.Need-returns-2
 unfolding perform
 returns-2 c =
     let w = c .before .before .before .before .write .ensures .0 in
-    rw (c .before .before .before .before .before .before .before .before .before .command2 .given .1, ← c .before .before .before .before .before .before .before .rest .ensures)
-    (record { answer = w .answer; memory = w .memory; lock = refl; short = write-short _ _ _ _ })
+    let g = c .before .before .before .before .before .before .before .before .before .command2 .given .1 in
+    let r = c .before .before .before .before .before .before .before .rest .ensures in
+    let l = rw (g, ← r) at (c .before .before .before .before .before .before .before .before .before .before .before .before .before .before .before .before .pre) in
+    rw (g, ← r)
+    (record { answer = w .answer; memory = w .memory; lock = refl; short = write-short _ _ _ _ _ (l .1) })
 
 returns-3 : tie.Need-returns-3
 unfolding perform
 returns-3 c =
     let w = c .before .before .before .before .write-masked .ensures in
-    rw (c .before .before .before .before .before .before .before .before .before .command3 .given .1, ← c .before .before .before .before .before .before .before .rest2 .ensures)
-    (record { answer = w .answer; memory = w .memory; lock = refl; short = write-short _ _ _ _ })
+    let g = c .before .before .before .before .before .before .before .before .before .command3 .given .1 in
+    let r = c .before .before .before .before .before .before .before .rest2 .ensures in
+    let l = rw (g, ← r) at (c .before .before .before .before .before .before .before .before .before .before .before .before .before .before .before .before .pre) in
+    rw (g, ← r)
+    (record { answer = w .answer; memory = w .memory; lock = refl; short = write-short _ _ _ _ _ (omega (arith, l .1)) })
 
 returns-4 : tie.Need-returns-4
 unfolding perform

@@ -1,11 +1,8 @@
 -- `answer_datagram` meets its contract.
 -- Assumes nothing.
-use mathlib.Core.Path.{refl, ap, _∙_}
 use Rattle.board.specs.Table.{spacesIn}
-use Rattle.reply.specs.Answers.{answerOf, bufferOf}
-use Rattle.handler.specs.Performing.{fixed, contents, handle}
-use Rattle.handler.proofs.Laws.{whole}
-use Rattle.node.specs.declared.FrameAnswer.the-variants.{Answered}
+use Rattle.handler.specs.Performing.{fixed, contents}
+use Rattle.node.proofs.FrameLaws.{answers-finish}
 use borrow.Author.Needs.{needs}
 use Rattle.node.proofs.frames.answer_datagram.Statement.{statement}
 use Rattle.node.proofs.frames.answer_datagram.Tie as tie
@@ -14,15 +11,8 @@ returns : tie.Need-returns
 returns c =
     let e = c .before .before .before .before .before .before .before .before .before .before .before .before .before in
     let a = e .args in
-    let h = c .before .before .before .before .handle .ensures in
-    let x = fixed (a .alias) (a .write-lengths) (spacesIn (a .spaces .now)) (a .flash .now) in
-    let w = whole (handle x (contents (a .memory .now) (a .lock .now)) (a .datagram .now) .result) (a .out .now) (h .short) (e .pre) in
-    λ st. record {
-      answer = ap Answered (h .answer .answer ∙ ap answerOf w);
-      reply = h .answer .buffer ∙ ap (λ r. bufferOf r (a .out .now)) w;
-      memory = h .memory;
-      lock = h .lock;
-    }
+    answers-finish (fixed (a .alias) (a .write-lengths) (spacesIn (a .spaces .now)) (a .flash .now)) (contents (a .memory .now) (a .lock .now)) (a .datagram .now) (a .out .now) (e .pre)
+    (c .before .before .before .before .handle .ensures .0)
 
 pub answer-datagram-spec : {M : Type 1} → statement M
 answer-datagram-spec =

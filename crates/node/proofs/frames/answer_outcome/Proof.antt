@@ -8,16 +8,16 @@ use Rattle.node.proofs.frames.answer_outcome.Statement.{statement}
 use Rattle.node.proofs.frames.answer_outcome.Tie as tie
 
 returns : tie.Need-returns
-returns c = rw (c .enum-told .given .1) (λ st. record { answer = refl; reply = refl; memory = refl; lock = refl })
+returns c = rw (c .enum-told .given .1) (λ st. record { answer = refl; reply = refl; memory = refl; lock = refl; short = tt })
 
 returns-2 : tie.Need-returns-2
-returns-2 c = rw (c .enum-told2 .given .1) (λ st. record { answer = refl; reply = refl; memory = refl; lock = refl })
+returns-2 c = rw (c .enum-told2 .given .1) (λ st. record { answer = refl; reply = refl; memory = refl; lock = refl; short = tt })
 
 returns-3 : tie.Need-returns-3
-returns-3 c = rw (c .enum-told3 .given .1) (λ st. record { answer = refl; reply = refl; memory = refl; lock = refl })
+returns-3 c = rw (c .enum-told3 .given .1) (λ st. record { answer = refl; reply = refl; memory = refl; lock = refl; short = tt })
 
 returns-4 : tie.Need-returns-4
-returns-4 c = rw (c .before .outcome .given .1) (λ st. record { answer = refl; reply = refl; memory = refl; lock = refl })
+returns-4 c = rw (c .before .outcome .given .1) (λ st. record { answer = refl; reply = refl; memory = refl; lock = refl; short = tt })
 
 returns-5 : tie.Need-returns-5
 returns-5 c = rw (c .before .before .before .before .before .before .before .before .enum-told4 .given .1) (c .before .before .before .before .answer-datagram .ensures)

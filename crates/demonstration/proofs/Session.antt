@@ -1,0 +1,32 @@
+-- The paper's session prints as the paper has it: by computing.
+-- Assumes nothing.
+use mathlib.Core.Path.{refl}
+use Rattle.buffer.specs.Buffer.{putAt, placed}
+use Rattle.frame.specs.Frame.{kindOf, addressed, roleOf, frameOf}
+use Rattle.board.specs.Description.{findSpace}
+use Rattle.house.specs.HouseNumbers.{among, spacesHouse, descriptionHouse}
+use Rattle.fields.specs.Commands as commands
+use Rattle.fields.specs.Commands.{pairsOf, restOf}
+use Rattle.command.specs.Decoding.{decodeRead, decodeWrite, decodeMasked, decodeKind, decode}
+use Rattle.reception.specs.Order.{handleFrame}
+use Rattle.reception.specs.PlaceBytes.{placesIn}
+use Rattle.reception.specs.Reception.{isFor, joinSound, receive}
+use Rattle.cutting.specs.Cutting.{restFrames, framesOf, cutFrames}
+use Rattle.cutting.specs.Transport.{receivedOk, rejectedWith}
+use Rattle.reply.specs.Replies.{replyHead}
+use Rattle.access.specs.Access.{readResult, writeResult, memoryAfter, masked, storeMasked}
+use Rattle.handler.specs.Performing.{perform, handle}
+use Rattle.datagram.specs.Datagram.{datagramHouse}
+use Rattle.node.specs.Frames.{frameCall}
+use Rattle.sending.specs.Sending.{framesToSend}
+use Rattle.hex.specs.Digits.{digitValue, digitOf, allDigits, digitsOf, bytesIn, hexDigits, numberFrom}
+use Rattle.gridconnect.specs.Line.{lineOf, formed, parseOf, frameText}
+use Rattle.printing.specs.Printing.{framesText}
+use Rattle.lines.specs.Input.{completed, unfinished, endLine}
+use Rattle.turn.specs.Turn.{answerLine}
+use Rattle.session.specs.Session.{answerLines}
+use Rattle.demonstration.specs.PaperSession.{PaperSession}
+
+pub paper-session : PaperSession
+unfolding putAt placed kindOf addressed roleOf frameOf findSpace among spacesHouse descriptionHouse pairsOf commands.kindOf restOf decodeRead decodeWrite decodeMasked decodeKind decode handleFrame placesIn isFor joinSound receive restFrames framesOf cutFrames receivedOk rejectedWith replyHead readResult writeResult memoryAfter masked storeMasked perform handle datagramHouse frameCall framesToSend digitValue digitOf allDigits digitsOf bytesIn hexDigits numberFrom lineOf formed parseOf frameText framesText completed unfinished endLine answerLine answerLines
+paper-session = refl

@@ -1,0 +1,15 @@
+-- `completed` meets its contract.
+-- Assumes nothing.
+use borrow.Author.Needs.{needs}
+use Rattle.driver.proofs.completed.Statement.{statement}
+use Rattle.driver.proofs.completed.Tie as tie
+
+returns : tie.Need-returns
+returns c = rw (c .start .ensures)
+
+pub completed-spec : {M : Type 1} → statement M
+completed-spec =
+    tie.close
+    (tie.spec
+    (λ c κs. search needs)
+    returns)

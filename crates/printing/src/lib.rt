@@ -1,0 +1,70 @@
+// Frames that lie in lent bytes, printed as lines.
+use frame::Frame;
+ghost use mathlib.Core.Path.{_≡_};
+ghost use Prim.Native.Nat.{_+_, _*_, _≤_, _<_, min};
+ghost use lib.ListN.{length};
+ghost use Rattle.buffer.specs.Buffer.{putAt};
+ghost use Rattle.gridconnect.specs.Line.{Printed};
+ghost use Rattle.printing.specs.Printing.{frameAt, framesFrom, framesText, whenRoom};
+
+// The longest that the frames of one answer are printed as: ten lines of at most 29 bytes.
+pub const LONGEST: usize = 290;
+
+// Frame i of the lent bytes.
+fn frame_at(frames: &[u8; 160], i: usize) -> Frame
+    requires { ⌜ i < 10 ⌝ }
+    ensures { λ r. ⌜ r ≡ frameAt (now (frames .entry)) (16 * i) ⌝ }
+{
+    let at = 16 * i;
+    Frame {
+        header: buffer::number(frames[at + 3], frames[at + 2], frames[at + 1], frames[at]),
+        len: buffer::number(
+            frames[at + 7],
+            frames[at + 6],
+            frames[at + 5],
+            frames[at + 4],
+        ),
+        bytes: [
+            frames[at + 8],
+            frames[at + 9],
+            frames[at + 10],
+            frames[at + 11],
+            frames[at + 12],
+            frames[at + 13],
+            frames[at + 14],
+            frames[at + 15],
+        ],
+    }
+}
+
+// The first n frames.
+fn print_some(frames: &[u8; 160], n: usize, out: &mut [u8], at: usize) -> usize
+    requires { ⌜ (n ≤ 10) × (at + 29 * n ≤ length (now out)) ⌝ }
+    ensures end { λ r. ⌜ r ≡ at + length (framesText (framesFrom (now (frames .entry)) 0 n)) ⌝ }
+    ensures out { λ _. ⌜ now (out .exit) ≡ putAt at (framesText (framesFrom (now (frames .entry)) 0 n)) (now (out .entry)) ⌝ }
+{
+    let mut end = at;
+    let mut i: usize = 0;
+    while i < n {
+        end = gridconnect::print_frame(frame_at(frames, i), out, end);
+        i += 1;
+    }
+    end
+}
+
+// Prints the first `count` of ten frames from index `at` of `out` on, and returns the index past them. Where `out` has no room for the
+// longest lines of ten, nothing is printed.
+pub fn print_frames(frames: &[u8; 160], count: usize, out: &mut [u8], at: usize) -> usize
+    ensures { λ r. ⌜ Printed at (whenRoom at (now (out .entry)) (framesText (framesFrom (now (frames .entry)) 0 (min count 10)))) (now (out .entry)) r (now (out .exit)) ⌝ }
+{
+    if out.len() < LONGEST {
+        return at;
+    }
+    if out.len() - LONGEST < at {
+        return at;
+    }
+    if 10 < count {
+        return print_some(frames, 10, out, at);
+    }
+    print_some(frames, count, out, at)
+}

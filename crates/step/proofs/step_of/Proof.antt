@@ -1,0 +1,17 @@
+-- `step_of` meets its contract.
+-- Assumes nothing.
+use borrow.Author.Needs.{needs}
+use Rattle.step.specs.Step.{stepOf}
+use Rattle.step.proofs.step_of.Statement.{statement}
+use Rattle.step.proofs.step_of.Tie as tie
+
+returns : tie.Need-returns
+unfolding stepOf
+returns c = rw (c .before .if1 .taken) (c .step-more .ensures)
+
+returns-2 : tie.Need-returns-2
+unfolding stepOf
+returns-2 c = rw (c .before .if1 .left) (c .step-new .ensures)
+
+pub step-of-spec : {M : Type 1} → statement M
+step-of-spec = tie.close (tie.spec (λ c κs. search needs) returns (λ c κs. search needs) returns-2)

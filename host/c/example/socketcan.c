@@ -1,0 +1,113 @@
+/*
+ * The demonstration board of document 01 on a CAN interface of Linux, its memory kept in a file.
+ *
+ *   socketcan INTERFACE FILE
+ */
+#define _DEFAULT_SOURCE
+
+#include "demonstration.h"
+
+#include <fcntl.h>
+#include <linux/can.h>
+#include <linux/can/raw.h>
+#include <net/if.h>
+#include <stdio.h>
+#include <stdlib.h>
+#include <string.h>
+#include <sys/socket.h>
+#include <unistd.h>
+
+static uint8_t memory[DEMONSTRATION_MEMORY_SIZE];
+static struct bujorelm_node node;
+
+/* The header of a received frame; false for one that no board is interested in. Above the 29 bits can_id has flags, and a header that still
+   had one would be ignored. */
+static bool header_of(const struct can_frame *received, uint32_t *header)
+{
+    *header = received->can_id & CAN_EFF_MASK;
+    return (received->can_id & (CAN_EFF_FLAG | CAN_RTR_FLAG | CAN_ERR_FLAG)) == CAN_EFF_FLAG;
+}
+
+static bool send_frame(void *context, const struct bujorelm_frame *frame)
+{
+    const int *const bus = context;
+    struct can_frame sent;
+
+    memset(&sent, 0, sizeof sent);
+    sent.can_id = frame->header | CAN_EFF_FLAG;
+    sent.can_dlc = (uint8_t)frame->len;
+    memcpy(sent.data, frame->bytes, sizeof frame->bytes);
+    return write(*bus, &sent, sizeof sent) == (ssize_t)sizeof sent;
+}
+
+/* Stores the bytes of memory that a write has changed. They are on the disk when this is back. */
+static bool store(int file, size_t at, size_t len)
+{
+    return pwrite(file, memory + at, len, (off_t)at) == (ssize_t)len && fdatasync(file) == 0;
+}
+
+/* Serves the bus until it ends. */
+static void serve(int bus, int file)
+{
+    struct can_frame received;
+
+    while (read(bus, &received, sizeof received) == (ssize_t)sizeof received) {
+        struct bujorelm_result result;
+        uint32_t header;
+
+        if (!header_of(&received, &header)) {
+            continue;
+        }
+        result = bujorelm_node_handle_frame(&node, header, received.data, received.can_dlc);
+        if (result.kind == BUJORELM_WRITTEN && !store(file, result.changed_at, result.changed_len)) {
+            perror("store");
+            continue;
+        }
+        if (!bujorelm_send_frames(node.frames, result.frame_count, send_frame, &bus)) {
+            perror("send");
+        }
+    }
+}
+
+static int open_bus(const char *interface)
+{
+    struct sockaddr_can address;
+    const int bus = socket(PF_CAN, SOCK_RAW, CAN_RAW);
+
+    memset(&address, 0, sizeof address);
+    address.can_family = AF_CAN;
+    address.can_ifindex = (int)if_nametoindex(interface);
+    if (bus < 0 || address.can_ifindex == 0 || bind(bus, (const struct sockaddr *)&address, sizeof address) != 0) {
+        perror(interface);
+        exit(EXIT_FAILURE);
+    }
+    return bus;
+}
+
+/* The memory of the last run; bytes that the file lacks are zero. */
+static int open_store(const char *name)
+{
+    const int file = open(name, O_RDWR | O_CREAT, 0666);
+
+    if (file < 0 || pread(file, memory, sizeof memory, 0) < 0) {
+        perror(name);
+        exit(EXIT_FAILURE);
+    }
+    return file;
+}
+
+static void start(void)
+{
+    bujorelm_node_start(&node, &demonstration_description, demonstration_flash, sizeof demonstration_flash, memory, sizeof memory);
+}
+
+int main(int argc, char **argv)
+{
+    if (argc != 3 || !bujorelm_version_fits()) {
+        fputs(argc != 3 ? "usage: socketcan INTERFACE FILE\n" : "libdriver.a is of another version than bujorelm.h\n", stderr);
+        return 2;
+    }
+    start();
+    serve(open_bus(argv[1]), open_store(argv[2]));
+    return EXIT_FAILURE;
+}

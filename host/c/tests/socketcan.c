@@ -1,0 +1,139 @@
+/*
+ * A test of example/socketcan.c on a pair of sockets in the place of a CAN interface: the flags of can_id, what is sent, and that what a
+ * write changed is stored before the tool hears of it.
+ */
+int example_main(int argc, char **argv);
+#define main example_main
+#include "example/socketcan.c"
+#undef main
+
+#include "check.h"
+
+#include <poll.h>
+#include <sys/wait.h>
+
+static struct can_frame frame_of(uint32_t can_id, const char *hex)
+{
+    struct can_frame frame;
+
+    memset(&frame, 0, sizeof frame);
+    frame.can_id = can_id;
+    frame.can_dlc = (uint8_t)from_hex(hex, frame.data);
+    return frame;
+}
+
+/* What the board sends next, within a second or not at all. */
+static bool receive(int bus, struct can_frame *frame)
+{
+    struct pollfd p = {.fd = bus, .events = POLLIN};
+
+    return poll(&p, 1, 1000) == 1 && read(bus, frame, sizeof *frame) == (ssize_t)sizeof *frame;
+}
+
+static void test_headers(void)
+{
+    static const uint32_t wrong[] = {0, CAN_RTR_FLAG, CAN_ERR_FLAG, CAN_EFF_FLAG | CAN_RTR_FLAG, CAN_EFF_FLAG | CAN_ERR_FLAG};
+    struct can_frame frame;
+    uint32_t header = 0;
+
+    frame = frame_of(0x1A22B123u | CAN_EFF_FLAG, "");
+    CHECK(header_of(&frame, &header) && header == 0x1A22B123u);
+    for (size_t i = 0; i < sizeof wrong / sizeof wrong[0]; i++) {
+        frame.can_id = 0x1A22B123u | wrong[i];
+        CHECK(!header_of(&frame, &header));
+    }
+}
+
+/* A board in a process of its own, which ends with the bus. */
+struct served {
+    int bus;
+    pid_t child;
+};
+
+static struct served serve_apart(int file)
+{
+    struct served served;
+    int pair[2];
+
+    if (socketpair(AF_UNIX, SOCK_SEQPACKET, 0, pair) != 0) {
+        give_up("socketpair");
+    }
+    served.bus = pair[0];
+    served.child = fork();
+    if (served.child < 0) {
+        give_up("fork");
+    }
+    if (served.child == 0) {
+        close(pair[0]);
+        start();
+        serve(pair[1], file);
+        _exit(0);
+    }
+    close(pair[1]);
+    return served;
+}
+
+static void served_end(struct served served)
+{
+    int status = -1;
+
+    close(served.bus);
+    CHECK(waitpid(served.child, &status, 0) == served.child && status == 0);
+}
+
+static void send_to(struct served served, uint32_t can_id, const char *hex)
+{
+    const struct can_frame frame = frame_of(can_id, hex);
+
+    CHECK(write(served.bus, &frame, sizeof frame) == (ssize_t)sizeof frame);
+}
+
+/* AB CD to index 2. */
+static const char write_abcd[] = "200100000002ABCD";
+
+static void test_serving(void)
+{
+    /* Flags with which it is no frame for the board, and the one with which it is. */
+    static const uint32_t flags[] = {CAN_EFF_FLAG | CAN_RTR_FLAG, CAN_EFF_FLAG | CAN_ERR_FLAG, 0, CAN_EFF_FLAG};
+    char name[] = "/tmp/bujorelm-store-XXXXXX";
+    const int file = mkstemp(name);
+    const struct served served = serve_apart(file);
+    struct can_frame frame;
+    uint8_t stored[DEMONSTRATION_MEMORY_SIZE];
+
+    for (size_t i = 0; i < sizeof flags / sizeof flags[0]; i++) {
+        send_to(served, 0x1A22B123u | flags[i], write_abcd);
+    }
+    CHECK(receive(served.bus, &frame) && frame.can_id == (0x19A2822Bu | CAN_EFF_FLAG) && frame.can_dlc == 3);
+    CHECK(memcmp(frame.data, "\x01\x23\x00\0\0\0\0", 8) == 0);
+    CHECK(pread(file, stored, sizeof stored, 0) == 4 && memcmp(stored, "\0\0\xAB\xCD", 4) == 0);
+    /* A reply of a First, a Middle and a Last: each with its own length. */
+    send_to(served, 0x1A22B123u | CAN_EFF_FLAG, "20420000000010");
+    CHECK(receive(served.bus, &frame) && frame.can_id == (0x19A2822Bu | CAN_EFF_FLAG) && frame.data[2] == 0x80);
+    CHECK(receive(served.bus, &frame) && frame.can_id == (0x1B12322Bu | CAN_EFF_FLAG) && frame.can_dlc == 8);
+    CHECK(receive(served.bus, &frame) && frame.can_id == (0x1C12322Bu | CAN_EFF_FLAG) && memcmp(frame.data, "\xAB\xCD", 2) == 0);
+    CHECK(receive(served.bus, &frame) && frame.can_id == (0x1D12322Bu | CAN_EFF_FLAG) && frame.can_dlc == 6);
+    served_end(served);
+    CHECK(open_store(name) >= 0 && memcmp(memory, "\0\0\xAB\xCD", 4) == 0);
+    unlink(name);
+}
+
+/* A write that cannot be stored is not answered, so it is stored before it is answered. */
+static void test_failing_store(void)
+{
+    const struct served served = serve_apart(-1);
+    struct can_frame frame;
+
+    send_to(served, 0x1A22B123u | CAN_EFF_FLAG, write_abcd);
+    send_to(served, 0x1A22B456u | CAN_EFF_FLAG, "20A8");
+    CHECK(receive(served.bus, &frame) && memcmp(frame.data, "\x04\x56\x00", 3) == 0);
+    served_end(served);
+}
+
+int main(void)
+{
+    test_headers();
+    test_serving();
+    test_failing_store();
+    return check_result("socketcan");
+}
