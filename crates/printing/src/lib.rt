@@ -7,7 +7,7 @@ ghost use Rattle.buffer.specs.Buffer.{putAt};
 ghost use Rattle.gridconnect.specs.Line.{Printed};
 ghost use Rattle.printing.specs.Printing.{frameAt, framesFrom, framesText, whenRoom};
 
-// The longest that the frames of one answer are printed as: ten lines of at most 29 bytes.
+// The longest that the frames of one answer are printed as: a transport reply and nine frames, lines of at most 29 bytes.
 pub const LONGEST: usize = 290;
 
 // Frame i of the lent bytes.

@@ -38,6 +38,7 @@ replyFrames board tool (Written index n) buffer = []
 replyFrames board tool UpdateComplete buffer = []
 replyFrames board tool (Replied n) buffer = cutFrames (take n buffer) tool board
 
+-- "per frame the transport reply, then the reply datagram's frames"
 abbrev pub answerFrames : ℕ → ℕ → Answer → List ℕ → List Frame
 answerFrames board tool a buffer = transportFrames board tool (transportOf a) ++ replyFrames board tool a buffer
 
@@ -59,7 +60,7 @@ pub record Made (fs : List Frame) (r : ℕ) (before after : List ℕ) : Type 0 w
 
 -- ---- what the bus sees
 
--- The reply datagram of a result; none has no bytes.
+-- The bytes of the reply datagram. Whether there is one is said by the answer: where there is none, no frame is made of these.
 abbrev pub replyOf : order.Answer HouseNumber Result → List ℕ
 replyOf (houseRefusal house) = []
 replyOf ignoredFrame = []

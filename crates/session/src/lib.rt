@@ -1,6 +1,7 @@
 // Text to text: the lines of an input that comes in chunks, answered by the board.
 use lines::Carry;
 use lines::Next;
+use printing::LONGEST;
 ghost use mathlib.Core.Path.{_≡_};
 ghost use mathlib.Core.List.{[]};
 ghost use Prim.Native.Nat.{_+_, _≤_};
@@ -11,9 +12,6 @@ ghost use Rattle.handler.specs.Performing.{fixed, contents};
 ghost use Rattle.lines.specs.Input.{given};
 ghost use Rattle.turn.specs.Turn.{Prints};
 ghost use Rattle.session.specs.Session.{answerLines, atEnd, Answered, AnyChunks};
-
-// The longest that one line is answered with: a transport reply and nine frames, of at most 29 bytes each.
-const LONGEST: usize = 290;
 
 // How far a chunk is answered: the index up to which it was read, the carry there, and the index past the text in the buffer.
 pub struct Progress {

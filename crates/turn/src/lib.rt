@@ -1,12 +1,10 @@
 // A line answered: its frame is handled, and what the board sends is printed.
 use gridconnect::Parsed;
+use printing::LONGEST;
 ghost use Rattle.board.specs.Table.{spacesIn};
 ghost use Rattle.reception.specs.PlaceBytes.{stateIn};
 ghost use Rattle.handler.specs.Performing.{fixed, contents};
 ghost use Rattle.turn.specs.Turn.{answerWithRoom, Prints};
-
-// The longest that one line is answered with: a transport reply and nine frames, of at most 29 bytes each.
-const LONGEST: usize = 290;
 
 // A line that was read: its frame is handled and what the board sends is printed into `out` from index `at` on, or `?`. Returns the index past the
 // text. Where `out` has no room for the longest answer, the line is not answered.
