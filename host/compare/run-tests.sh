@@ -1,6 +1,6 @@
 #!/bin/sh
-# Holds the test run of the host side: the tests of the model and of this package, and the
-# comparison of library and model with a fixed seed and with one from the clock.
+# Holds the test run of the comparison: the tests of this package, and library and model compared
+# with a fixed seed and with one from the clock. (The model has tests of its own.)
 # The library has to be there: target/staticlib/libdriver.a, built by `rt staticlib driver`.
 set -eu
 cd "$(dirname "$0")/../.."
@@ -16,10 +16,8 @@ fi
 
 # The tests are built without optimisation: that is quicker than running them is slow, and
 # arithmetic that overflows is found.
-for package in model compare; do
-    cargo test --offline --quiet --manifest-path "host/$package/Cargo.toml"
-    cargo build --release --offline --quiet --manifest-path "host/$package/Cargo.toml"
-done
+cargo test --offline --quiet --manifest-path host/compare/Cargo.toml
+cargo build --release --offline --quiet --manifest-path host/compare/Cargo.toml
 
 # The two runs at once, one for each core of the machine that the gate runs on. The clock's seed is
 # printed by the program, so that what it finds can be had again.

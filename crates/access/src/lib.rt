@@ -1,73 +1,41 @@
 // Reads, writes and masked writes of a space.
-use board::Found;
 use board::Space;
 use fields::Form;
+use reach::Access;
 use reply::Answer;
 ghost use mathlib.Core.Path.{_≡_};
 ghost use mathlib.Core.Bool.{true, false};
+ghost use Prim.Native.Nat.{_≤_, _/_};
 ghost use lib.ListN.{length};
 ghost use Rattle.board.specs.Description.{findSpace};
 ghost use Rattle.board.specs.Table.{spacesIn};
-ghost use Rattle.fields.specs.Commands.{pair, pairsOf};
+ghost use Rattle.fields.specs.Commands.{pairsOf};
 ghost use Rattle.reply.specs.Answers.{Agrees};
-ghost use Rattle.access.specs.Access.{inside, access, readResult, storeBytes, maskByte, storeMasked, WritesFit, Writes};
+ghost use Rattle.reach.specs.Reach.{access, indexOf, WritesFit};
+ghost use Rattle.storing.specs.Storing.{storeBytes, storeMasked};
+ghost use Rattle.access.specs.Access.{bytesRead, readResult, Writes};
 
-// A read or a write reaches a described space, or fails with a code.
-pub enum Access {
-    Fails(u16),
-    Reaches(Space),
+// The bytes of a space from an address of it on, up to `count`.
+fn bytes_in<'a>(
+    space: Space,
+    flash: &'a [u8],
+    memory: &'a [u8],
+    address: u32,
+    count: u8,
+) -> &'a [u8]
+    requires { ⌜ space .lowest ≤ address ⌝ }
+    ensures { λ r. ⌜ now r ≡ bytesRead (now (flash .entry)) (now (memory .entry)) space address count ⌝ }
+{
+    let start = (address - space.lowest) as usize;
+    buffer::part(board::window(space, flash, memory), start, count as usize)
 }
 
-// Whether all of the n addresses from the address on are in the space.
-fn is_inside(space: Space, address: u32, n: usize) -> bool
-    ensures { λ r. ⌜ r ≡ inside space address n ⌝ }
+// Where an address of a space stands in its store.
+fn index_of(space: Space, address: u32) -> usize
+    requires { ⌜ space .lowest ≤ address ⌝ }
+    ensures { λ r. ⌜ r ≡ indexOf space address ⌝ }
 {
-    if address < space.lowest {
-        return false;
-    }
-    let end = space.highest as usize + 1;
-    let at = address as usize;
-    if end < at {
-        return false;
-    }
-    n <= end - at
-}
-
-// Whether a described space is reached, by a write only where it is writable.
-fn reach_space(writes: bool, space: Space, address: u32, n: usize) -> Access
-    ensures { λ r. ⌜ r ≡ access writes (Found.Described space) address n ⌝ }
-{
-    if writes {
-        if space.read_only {
-            return Access::Fails(0x1083);
-        }
-    }
-    if is_inside(space, address, n) {
-        return Access::Reaches(space);
-    }
-    Access::Fails(0x1082)
-}
-
-// The failures, in their order.
-fn reach(writes: bool, found: Found, address: u32, n: usize) -> Access
-    ensures { λ r. ⌜ r ≡ access writes found address n ⌝ }
-{
-    match found {
-        Found::Described(space) => {
-            return reach_space(writes, space, address, n);
-        }
-        Found::Empty(read_only) => {
-            if writes {
-                if read_only {
-                    return Access::Fails(0x1083);
-                }
-            }
-            return Access::Fails(0x1082);
-        }
-        Found::Unknown => {
-            return Access::Fails(0x1081);
-        }
-    }
+    space.offset as usize + (address - space.lowest) as usize
 }
 
 // Reads up to `count` bytes of the space with that number.
@@ -83,16 +51,16 @@ pub fn read<'a>(
 ) -> Answer
     ensures { λ r. ⌜ Agrees (readResult (now (flash .entry)) (now (memory .entry)) form number address count (access false (findSpace (spacesIn (now (spaces .entry))) number) address 1)) r (now (out .entry)) (now (out .exit)) ⌝ }
 {
-    let access = reach(false, board::find_space(spaces, number), address, 1);
-    match access {
-        Access::Fails(code) => {
-            return reply::failed_read(out, form, number, address, code);
-        }
+    match reach::reach(spaces, false, number, address, 1) {
+        Access::Fails(code) => reply::failed_read(out, form, number, address, code),
         Access::Reaches(space) => {
-            let start = (address - space.lowest) as usize;
-            let window = board::window(space, flash, memory);
-            let part = buffer::part(window, start, count as usize);
-            return reply::read(out, form, number, address, part);
+            reply::read(
+                out,
+                form,
+                number,
+                address,
+                bytes_in(space, flash, memory, address, count),
+            )
         }
     }
 }
@@ -110,48 +78,16 @@ pub fn write(
     ensures writes { λ r. ⌜ Writes (storeBytes (now (bytes .entry))) form number address (length (now (bytes .entry))) (access true (findSpace (spacesIn (now (spaces .entry))) number) address (length (now (bytes .entry)))) r (now (out .entry)) (now (out .exit)) (now (memory .entry)) (now (memory .exit)) ⌝ }
     ensures fit { λ _. ⌜ WritesFit ⌝ }
 {
-    let access = reach(
-        true,
-        board::find_space(spaces, number),
-        address,
-        bytes.len(),
-    );
-    match access {
+    let n = bytes.len();
+    match reach::reach(spaces, true, number, address, n) {
         Access::Fails(code) => {
             return reply::failed_write(out, form, number, address, code);
         }
         Access::Reaches(space) => {
-            let index = space.offset as usize + (address - space.lowest) as usize;
+            let index = index_of(space, address);
             buffer::put(memory, index, bytes);
-            return Answer::Written(index, bytes.len());
+            return Answer::Written(index, n);
         }
-    }
-}
-
-// A byte with the bits of the mask taken from the value.
-fn mask_byte(old: u8, mask: u8, value: u8) -> u8
-    ensures { λ r. ⌜ r ≡ maskByte old (pair mask value) ⌝ }
-{
-    (old & (255 - mask)) | (value & mask)
-}
-
-// Stores pairs of a mask and a value from an index of memory on. Where they do not fit, nothing is stored.
-fn put_masked(memory: &mut [u8], index: usize, pairs: &[u8])
-    ensures { λ _. ⌜ now (memory .exit) ≡ storeMasked (pairsOf (now (pairs .entry))) index (now (memory .entry)) ⌝ }
-{
-    if memory.len() < index {
-        return;
-    }
-    if memory.len() - index < pairs.len() / 2 {
-        return;
-    }
-    let mut i = 0;
-    let mut k = index;
-    while i + 1 < pairs.len() {
-        let byte = mask_byte(memory[k], pairs[i], pairs[i + 1]);
-        memory[k] = byte;
-        i += 2;
-        k += 1;
     }
 }
 
@@ -167,20 +103,15 @@ pub fn write_masked(
 ) -> Answer
     ensures { λ r. ⌜ Writes (storeMasked (pairsOf (now (pairs .entry)))) form number address (length (pairsOf (now (pairs .entry)))) (access true (findSpace (spacesIn (now (spaces .entry))) number) address (length (pairsOf (now (pairs .entry))))) r (now (out .entry)) (now (out .exit)) (now (memory .entry)) (now (memory .exit)) ⌝ }
 {
-    let access = reach(
-        true,
-        board::find_space(spaces, number),
-        address,
-        pairs.len() / 2,
-    );
-    match access {
+    let n = pairs.len() / 2;
+    match reach::reach(spaces, true, number, address, n) {
         Access::Fails(code) => {
             return reply::failed_write(out, form, number, address, code);
         }
         Access::Reaches(space) => {
-            let index = space.offset as usize + (address - space.lowest) as usize;
-            put_masked(memory, index, pairs);
-            return Answer::Written(index, pairs.len() / 2);
+            let index = index_of(space, address);
+            storing::put_masked(memory, index, pairs);
+            return Answer::Written(index, n);
         }
     }
 }

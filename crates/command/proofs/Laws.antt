@@ -2,7 +2,7 @@
 -- Assumes nothing.
 use Prim.Native.Nat.{ℕ, _-_, _%_, _/_, _≤_, _<_}
 use mathlib.Core.Path.{_≡_, refl, sym, ap, _∙_}
-use mathlib.Core.Bool.{Bool, true, not, _&&_, _||_}
+use mathlib.Core.Bool.{Bool, true, false, not, _&&_, _||_}
 use mathlib.Core.List.{List, [], _∷_}
 use native.Mathlib.Nat.{add-zero}
 use native.Mathlib.Omega.{arith}
@@ -13,13 +13,14 @@ use borrow.Author.Tests.{eq-eqb, ne-eqb, lt-ltb, le-ltb, le-leb, leb-true, eqb-t
 use Rattle.buffer.proofs.Choice.{cond-elim, cond-map, and-left, and-right}
 use Rattle.fields.specs.Commands.{Request, read, write, writeMasked, options, information, reserve, updateComplete, pairsOf, within, kindOf, formIn, headLength, spaceOf, addressOf, restOf}
 use Rattle.command.specs.Decoding.{Reading, rejected, request, orWrong, countOf, decodeRead, decodeWrite, decodeMasked, decodeKind, decode, requestOf, readingOf, fixed}
+use Rattle.limits.specs.Limits.{countIn, countFits, bytesFit, pairsFit}
 use Rattle.fields.specs.declared.Form.{Form}
 use Rattle.fields.specs.declared.Form.the-variants.{NoSpace}
 use Rattle.fields.specs.declared.Kind.{Kind}
 use Rattle.fields.specs.declared.Kind.the-variants.{Read, Write, WriteMasked, Options, Information, Lock, UpdateComplete, Unknown}
 use Rattle.command.specs.declared.Command.{Command}
 use Rattle.command.specs.declared.Decoded.the-variants.{Rejected, Accepted}
-use Rattle.fields.proofs.Laws.{is-within, not-within, rest-is}
+use Rattle.fields.proofs.Laws.{rest-is, pairs-length}
 
 -- The command of a lock is one of those from 0x80 on, which name no space.
 abbrev pub Locks : ℕ → Kind → Type 0
@@ -67,41 +68,41 @@ module _ (d : List ℕ) {f : Form} {head : ℕ} (p : f ≡ formIn d) (q : head �
   unfolding decodeRead
   read-length e = rw (← size, ne-eqb n 1 e)
 
-  module _ (e : n ≡ 1) where
-    abbrev count : ℕ
-    count = getD d head 0 % 128
+  module _ (e : n ≡ 1) {count : ℕ} (k : count ≡ countIn (getD d head 0)) {fits : Bool} (t : fits ≡ countFits count) where
+    counted : count ≡ countOf d
+    counted = k ∙ ap countIn (let first : getD d head 0 ≡ getD (restOf d) 0 0 = rw (rest-is d, ← p, ← q, getD-drop, add-zero) in first)
 
-    first-is : getD d head 0 ≡ getD (restOf d) 0 0
-    first-is = rw (rest-is d, ← p, ← q, getD-drop, add-zero)
-
-    pub read-count : (1 ≤ count → count ≤ 64 → ⊥) → rejected 0x1080 ≡ decodeRead d
+    pub read-count : fits ≡ false → rejected 0x1080 ≡ decodeRead d
     unfolding decodeRead
-    read-count t = rw (← size, eq-eqb n 1 e, ← first-is, not-within 1 64 count t)
+    read-count w = rw (← size, eq-eqb n 1 e, ← counted, ← t, w)
 
-    pub read-right : 1 ≤ count → count ≤ 64 → request f (read (spaceOf (formIn d) d) (addressOf d) count) ≡ decodeRead d
+    pub read-right : fits ≡ true → request f (read (spaceOf (formIn d) d) (addressOf d) count) ≡ decodeRead d
     unfolding decodeRead
-    read-right l h = rw (← p, ← size, eq-eqb n 1 e, ← first-is, is-within 1 64 count l h)
+    read-right w = rw (← p, ← size, eq-eqb n 1 e, ← counted, ← t, w)
 
-  pub write-length : (1 ≤ n → n ≤ 64 → ⊥) → rejected 0x1080 ≡ decodeWrite d
-  unfolding decodeWrite
-  write-length t = rw (← size, not-within 1 64 n t)
-
-  pub masked-length : (1 ≤ n → n ≤ 64 → ⊥) → rejected 0x1080 ≡ decodeMasked d
-  unfolding decodeMasked
-  masked-length t = rw (← size, not-within 1 64 n t)
-
-  module _ (l : 1 ≤ n) (h : n ≤ 64) where
-    pub write-right : request f (write (spaceOf (formIn d) d) (addressOf d) (restOf d)) ≡ decodeWrite d
+  module _ {fits : Bool} (t : fits ≡ bytesFit n) where
+    pub write-length : fits ≡ false → rejected 0x1080 ≡ decodeWrite d
     unfolding decodeWrite
-    write-right = rw (← p, ← size, is-within 1 64 n l h)
+    write-length w = rw (← size, ← t, w)
 
-    pub masked-odd : (n % 2 ≡ 0 → ⊥) → rejected 0x1080 ≡ decodeMasked d
-    unfolding decodeMasked
-    masked-odd o = rw (← size, is-within 1 64 n l h, ne-eqb (n % 2) 0 o)
+    pub write-right : fits ≡ true → request f (write (spaceOf (formIn d) d) (addressOf d) (restOf d)) ≡ decodeWrite d
+    unfolding decodeWrite
+    write-right w = rw (← p, ← size, ← t, w)
 
-    pub masked-right : n % 2 ≡ 0 → request f (writeMasked (spaceOf (formIn d) d) (addressOf d) (pairsOf (restOf d))) ≡ decodeMasked d
+  pub write-none : n ≡ 0 → rejected 0x1080 ≡ decodeWrite d
+  write-none e = write-length (ap bytesFit (sym e)) refl
+
+  module _ {fits : Bool} (t : fits ≡ pairsFit n) where
+    pub masked-length : fits ≡ false → rejected 0x1080 ≡ decodeMasked d
     unfolding decodeMasked
-    masked-right o = rw (← p, ← size, is-within 1 64 n l h, eq-eqb (n % 2) 0 o)
+    masked-length w = rw (← size, ← t, w)
+
+    pub masked-right : fits ≡ true → request f (writeMasked (spaceOf (formIn d) d) (addressOf d) (pairsOf (restOf d))) ≡ decodeMasked d
+    unfolding decodeMasked
+    masked-right w = rw (← p, ← size, ← t, w)
+
+  pub masked-none : n ≡ 0 → rejected 0x1080 ≡ decodeMasked d
+  masked-none e = masked-length (ap pairsFit (sym e)) refl
 
 -- a command of a fixed length
 pub fixed-reads : (n : ℕ) (d : List ℕ) (c : Command) → readingOf (fixed n d c) d ≡ orWrong (eqb (length d) n) (request NoSpace (requestOf c (restOf d)))
@@ -148,12 +149,6 @@ abbrev pub AllowedIn : Reading → Type 0
 AllowedIn (rejected code) = Unit {0}
 AllowedIn (request f q) = Allowed q
 
-pub pairs-length : (l : List ℕ) → length (pairsOf l) ≡ length l / 2
-unfolding pairsOf
-pairs-length [] = refl
-pairs-length (m ∷ []) = refl
-pairs-length (m ∷ v ∷ more) = let ih = pairs-length more in omega arith
-
 orWrong-allowed : (t : Bool) (f : Form) (q : Request) → (t ≡ true → Allowed q) → AllowedIn (orWrong t (request f q))
 orWrong-allowed t f q g = cond-elim AllowedIn t g (λ _. tt)
 
@@ -162,10 +157,10 @@ within-true low high c e = (leb-true low c (and-left (leb low c) _ e), leb-true 
 
 kind-allowed : (k : Kind) (d : List ℕ) → AllowedIn (decodeKind k d)
 unfolding decodeKind decodeRead decodeWrite decodeMasked
-kind-allowed Read d = orWrong-allowed (eqb (length (restOf d)) 1 && within 1 64 (countOf d)) _ (read (spaceOf (formIn d) d) (addressOf d) (countOf d)) (λ e.
+kind-allowed Read d = orWrong-allowed (eqb (length (restOf d)) 1 && countFits (countOf d)) _ (read (spaceOf (formIn d) d) (addressOf d) (countOf d)) (λ e.
     within-true 1 64 (countOf d) (and-right (eqb (length (restOf d)) 1) _ e))
-kind-allowed Write d = orWrong-allowed (within 1 64 (length (restOf d))) _ (write (spaceOf (formIn d) d) (addressOf d) (restOf d)) (λ e. within-true 1 64 (length (restOf d)) e)
-kind-allowed WriteMasked d = orWrong-allowed (within 1 64 (length (restOf d)) && eqb (length (restOf d) % 2) 0) _ (writeMasked (spaceOf (formIn d) d) (addressOf d) (pairsOf (restOf d))) (λ e.
+kind-allowed Write d = orWrong-allowed (bytesFit (length (restOf d))) _ (write (spaceOf (formIn d) d) (addressOf d) (restOf d)) (λ e. within-true 1 64 (length (restOf d)) e)
+kind-allowed WriteMasked d = orWrong-allowed (pairsFit (length (restOf d))) _ (writeMasked (spaceOf (formIn d) d) (addressOf d) (pairsOf (restOf d))) (λ e.
     let w = within-true 1 64 (length (restOf d)) (and-left (within 1 64 (length (restOf d))) _ e) in
     let o = eqb-true (length (restOf d) % 2) 0 (and-right (within 1 64 (length (restOf d))) _ e) in
     let n = pairs-length (restOf d) in

@@ -1,10 +1,11 @@
 -- Document 01, "Refused because of the input", the codes sent as Rejected, in their order; and what a datagram asks for where none applies.
-use Prim.Native.Nat.{ℕ, _%_}
+use Prim.Native.Nat.{ℕ}
 use mathlib.Core.Bool.{Bool, cond, not, _&&_, _||_}
 use mathlib.Core.List.{List}
 use lib.Dec.{ltb, eqb}
 use lib.ListN.{length, getD, drop}
-use Rattle.fields.specs.Commands.{Request, read, write, writeMasked, options, information, reserve, updateComplete, pairsOf, within, kindOf, formIn, spaceOf, addressOf, restOf}
+use Rattle.fields.specs.Commands.{Request, read, write, writeMasked, options, information, reserve, updateComplete, pairsOf, kindOf, formIn, spaceOf, addressOf, restOf}
+use Rattle.limits.specs.Limits.{countIn, countFits, bytesFit, pairsFit}
 use Rattle.fields.specs.declared.Form.{Form}
 use Rattle.fields.specs.declared.Form.the-variants.{NoSpace}
 use Rattle.fields.specs.declared.Kind.{Kind}
@@ -25,23 +26,23 @@ orWrong right reading = cond right reading (rejected 0x1080)
 
 -- "exactly one count byte; its top bit is ignored; the rest must be 1–64"
 abbrev pub countOf : List ℕ → ℕ
-countOf d = getD (restOf d) 0 0 % 128
+countOf d = countIn (getD (restOf d) 0 0)
 
 unfoldable pub decodeRead : List ℕ → Reading
 decodeRead d =
-    orWrong (eqb (length (restOf d)) 1 && within 1 64 (countOf d))
+    orWrong (eqb (length (restOf d)) 1 && countFits (countOf d))
     (request (formIn d) (read (spaceOf (formIn d) d) (addressOf d) (countOf d)))
 
 -- "1–64 data bytes"
 unfoldable pub decodeWrite : List ℕ → Reading
 decodeWrite d =
-    orWrong (within 1 64 (length (restOf d)))
+    orWrong (bytesFit (length (restOf d)))
     (request (formIn d) (write (spaceOf (formIn d) d) (addressOf d) (restOf d)))
 
--- "1–32 pairs (mask, data)": so many times two bytes, and no mask without its data.
+-- "1–32 pairs (mask, data)"
 unfoldable pub decodeMasked : List ℕ → Reading
 decodeMasked d =
-    orWrong (within 1 64 (length (restOf d)) && eqb (length (restOf d) % 2) 0)
+    orWrong (pairsFit (length (restOf d)))
     (request (formIn d) (writeMasked (spaceOf (formIn d) d) (addressOf d) (pairsOf (restOf d))))
 
 -- "0x80, two bytes long", "0x84, three bytes", "0x88, eight bytes", "0xA8, two bytes"; "0x1041 unknown command"

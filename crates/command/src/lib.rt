@@ -23,77 +23,73 @@ pub enum Decoded {
     Accepted(Form, Command),
 }
 
-// A read: exactly one count byte, 1 to 64 without its top bit. Here and in the next two the length is tested before the view is
-// asked: a datagram that is longer than its head has every byte that the view reads, and no test for a missing one is left.
+// A read: exactly one count byte. Here and in the next two the length is tested before the view is asked: a datagram that is longer
+// than its head has every byte that the view reads, and no test for a missing one is left.
 fn decode_read(datagram: &[u8]) -> Decoded
     ensures { λ r. ⌜ readingOf r (now (datagram .entry)) ≡ decodeRead (now (datagram .entry)) ⌝ }
 {
     let form = fields::form_in(datagram);
     let head = fields::head_length(form);
-    if datagram.len() <= head {
+    let length = datagram.len();
+    if length <= head {
         return Decoded::Rejected(0x1080);
     }
-    if 1 < datagram.len() - head {
+    if 1 < length - head {
         return Decoded::Rejected(0x1080);
     }
-    let count = datagram[head] % 128;
-    if count == 0 {
-        return Decoded::Rejected(0x1080);
+    let count = limits::count_in(datagram[head]);
+    if limits::count_fits(count) {
+        let target = view::target_of(datagram);
+        let command = Command::Read {
+            space: target.space,
+            address: target.address,
+            count: count,
+        };
+        return Decoded::Accepted(form, command);
     }
-    if 64 < count {
-        return Decoded::Rejected(0x1080);
-    }
-    let target = fields::target_of(datagram);
-    let command = Command::Read {
-        space: target.space,
-        address: target.address,
-        count: count,
-    };
-    Decoded::Accepted(form, command)
+    Decoded::Rejected(0x1080)
 }
 
-// A write: 1 to 64 bytes.
+// A write: its bytes are what remains.
 fn decode_write(datagram: &[u8]) -> Decoded
     ensures { λ r. ⌜ readingOf r (now (datagram .entry)) ≡ decodeWrite (now (datagram .entry)) ⌝ }
 {
     let form = fields::form_in(datagram);
     let head = fields::head_length(form);
-    if datagram.len() <= head {
+    let length = datagram.len();
+    if length <= head {
         return Decoded::Rejected(0x1080);
     }
-    if 64 < datagram.len() - head {
-        return Decoded::Rejected(0x1080);
+    if limits::bytes_fit(length - head) {
+        let target = view::target_of(datagram);
+        let command = Command::Write {
+            space: target.space,
+            address: target.address,
+        };
+        return Decoded::Accepted(form, command);
     }
-    let target = fields::target_of(datagram);
-    let command = Command::Write {
-        space: target.space,
-        address: target.address,
-    };
-    Decoded::Accepted(form, command)
+    Decoded::Rejected(0x1080)
 }
 
-// A masked write: 1 to 32 pairs, of two bytes each.
+// A masked write: its pairs are what remains.
 fn decode_masked(datagram: &[u8]) -> Decoded
     ensures { λ r. ⌜ readingOf r (now (datagram .entry)) ≡ decodeMasked (now (datagram .entry)) ⌝ }
 {
     let form = fields::form_in(datagram);
     let head = fields::head_length(form);
-    if datagram.len() <= head {
+    let length = datagram.len();
+    if length <= head {
         return Decoded::Rejected(0x1080);
     }
-    let length = datagram.len() - head;
-    if 64 < length {
-        return Decoded::Rejected(0x1080);
+    if limits::pairs_fit(length - head) {
+        let target = view::target_of(datagram);
+        let command = Command::WriteMasked {
+            space: target.space,
+            address: target.address,
+        };
+        return Decoded::Accepted(form, command);
     }
-    if length % 2 != 0 {
-        return Decoded::Rejected(0x1080);
-    }
-    let target = fields::target_of(datagram);
-    let command = Command::WriteMasked {
-        space: target.space,
-        address: target.address,
-    };
-    Decoded::Accepted(form, command)
+    Decoded::Rejected(0x1080)
 }
 
 // A command of a fixed length.
@@ -137,16 +133,17 @@ fn decode_kind(datagram: &[u8]) -> Decoded
 pub fn decode(datagram: &[u8]) -> Decoded
     ensures { λ r. ⌜ readingOf r (now (datagram .entry)) ≡ decode (now (datagram .entry)) ⌝ }
 {
-    if datagram.len() == 0 {
+    let length = datagram.len();
+    if length == 0 {
         return Decoded::Rejected(0x1080);
     }
-    if 72 < datagram.len() {
+    if 72 < length {
         return Decoded::Rejected(0x1080);
     }
     if datagram[0] != 0x20 {
         return Decoded::Rejected(0x1042);
     }
-    if datagram.len() == 1 {
+    if length == 1 {
         return Decoded::Rejected(0x1080);
     }
     decode_kind(datagram)

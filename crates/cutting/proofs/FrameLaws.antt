@@ -10,27 +10,27 @@ use Rattle.buffer.specs.Buffer.{over, putAt}
 use Rattle.buffer.proofs.Laws.{put-behind, put-first}
 use Rattle.frame.specs.declared.Frame.{Frame}
 use Rattle.frame.specs.Frame.{frameOf}
-use Rattle.frame.specs.Layout.{frameBytes, framesBytes, framePlaced}
-use Rattle.frame.proofs.LayoutLaws.{frame-length, frame-fits}
+use Rattle.layout.specs.Layout.{frameBytes, framesBytes, framePlaced}
+use Rattle.layout.proofs.LayoutLaws.{frame-length, frame-fits}
 
 module _ (n : ℕ) (fs : List Frame) (before : List ℕ) (room : 16 * (n + length fs) ≤ length before) {after : List ℕ} where
-  -- the one frame of fs, put as frame n, with a header that is as it is to be
-  pub frame-ends : (xs : List ℕ) {h k : ℕ} → fs ≡ frameOf k xs ∷ [] → length xs ≤ 8 → h ≡ k → after ≡ framePlaced n h xs before
-      → (n + 1 ≡ n + length fs) × (after ≡ putAt (16 * n) (framesBytes fs) before)
-  frame-ends xs {h} {k} e l q p =
+  -- the one frame of fs, put as frame n
+  pub frame-ends : (k : ℕ) (xs : List ℕ) {r : ℕ} → fs ≡ frameOf k xs ∷ [] → length xs ≤ 8 → (r ≡ n + 1) × (after ≡ framePlaced n k xs before)
+      → (r ≡ n + length fs) × (after ≡ putAt (16 * n) (framesBytes fs) before)
+  frame-ends k xs e l p =
       let one : length fs ≡ 1 = ap length e in
-      rw e (refl, p ∙ frame-fits n h xs before l (omega arith) ∙ rw (q, append-nil))
+      rw e (p .0, p .1 ∙ frame-fits n k xs before l (omega arith) ∙ rw append-nil)
 
   -- the first of fs, and behind it the others
-  pub frame-goes-on : (xs : List ℕ) (gs : List Frame) {h k r : ℕ} {mid : List ℕ} → fs ≡ frameOf k xs ∷ gs → length xs ≤ 8
-      → h ≡ k → mid ≡ framePlaced n h xs before
-      → (r ≡ n + 1 + length gs) × (after ≡ putAt (16 * (n + 1)) (framesBytes gs) mid)
+  pub frame-goes-on : (k : ℕ) (xs : List ℕ) (gs : List Frame) {next r : ℕ} {mid : List ℕ} → fs ≡ frameOf k xs ∷ gs → length xs ≤ 8
+      → (next ≡ n + 1) × (mid ≡ framePlaced n k xs before)
+      → (r ≡ next + length gs) × (after ≡ putAt (16 * next) (framesBytes gs) mid)
       → (r ≡ n + length fs) × (after ≡ putAt (16 * n) (framesBytes fs) before)
-  frame-goes-on xs gs {h} {k} e l q p made =
+  frame-goes-on k xs gs e l p made =
       let some : length fs ≡ length gs + 1 = ap length e ∙ omega arith in
       let m : 16 * (n + 1) ≡ 16 * n + length (frameBytes (frameOf k xs)) = omega (arith, frame-length k xs l) in (
-        made .0 ∙ rw e (omega arith),
-        made .1 ∙ rw (p, q, frame-fits n k xs before l (omega arith), e, m) (put-behind (16 * n) (frameBytes (frameOf k xs)) (framesBytes gs) before (omega arith)),
+        made .0 ∙ rw (p .0, e) (omega arith),
+        made .1 ∙ rw (p .0, p .1, frame-fits n k xs before l (omega arith), e, m) (put-behind (16 * n) (frameBytes (frameOf k xs)) (framesBytes gs) before (omega arith)),
       )
 
 -- frames put from frame 0 on lie in front

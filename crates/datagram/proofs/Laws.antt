@@ -13,12 +13,13 @@ use Rattle.house.specs.HouseNumbers.{isGood, descriptionHouse}
 use Rattle.house.specs.declared.HouseNumber.{HouseNumber}
 use Rattle.house.specs.declared.HouseNumber.the-variants.{Good}
 use Rattle.house.proofs.Laws.{is-good, bad, orElse-good, good-limits}
+use Rattle.description.specs.Calls.{bufferHouse, callHouse}
 use Rattle.reply.specs.Answers.{Result, datagramRejected, written, updateCompleted, receivedOkReply, answerOf, bufferOf, fitted, SmallAnswer}
 use Rattle.reply.specs.declared.Answer.{Answer}
 use Rattle.access.specs.Access.{Changes}
-use Rattle.handler.specs.Performing.{Fixed, Contents, handle, Short, Inside, Performs}
+use Rattle.handler.specs.Handling.{Fixed, Contents, handle, Short, Inside, Performs}
 use Rattle.handler.proofs.Laws.{whole, handle-bounds}
-use Rattle.datagram.specs.Datagram.{bufferHouse, datagramHouse, datagramCall, Ends}
+use Rattle.datagram.specs.Datagram.{datagramHouse, datagramCall, Ends}
 use Rattle.datagram.specs.declared.Handled.the-variants.{Refused, Answered}
 
 -- ---- no house number of a whole datagram
@@ -27,12 +28,12 @@ module _ (x : Fixed) (memory buffer : List ℕ) (g : datagramHouse x memory buff
   pub house-buffer : 72 ≤ length buffer
   unfolding datagramHouse
   house-buffer =
-      let e = orElse-good (descriptionHouse (x .alias) (x .spaces) (length (x .flash)) (length memory)) (bufferHouse buffer) g .1 in
+      let e = orElse-good (descriptionHouse (x .alias) (x .spaces) (length (x .flash)) (length memory)) (bufferHouse (length buffer)) g .1 in
       ltb-false (length buffer) 72 (cond-not (ltb (length buffer) 72) e (bad refl) .0)
 
   pub house-description : descriptionHouse (x .alias) (x .spaces) (length (x .flash)) (length memory) ≡ Good
   unfolding datagramHouse
-  house-description = orElse-good (descriptionHouse (x .alias) (x .spaces) (length (x .flash)) (length memory)) (bufferHouse buffer) g .0
+  house-description = orElse-good (descriptionHouse (x .alias) (x .spaces) (length (x .flash)) (length memory)) (bufferHouse (length buffer)) g .0
 
   house-memory : length memory ≤ 65536
   house-memory =
@@ -41,6 +42,11 @@ module _ (x : Fixed) (memory buffer : List ℕ) (g : datagramHouse x memory buff
       ltb-false 65536 m
       (or-left (ltb 65536 m) (ltb 65536 f || (eqb (x .alias) 0 || ltb 4095 (x .alias)))
       (or-right (ltb 16 (length (x .spaces))) _ (good-limits (x .alias) (x .spaces) f m house-description)))
+
+-- a house number by the sizes of what is lent
+pub by-sizes : (x : Fixed) (memory buffer : List ℕ) {house : HouseNumber} → house ≡ callHouse (x .alias) (x .spaces) (length (x .flash)) (length memory) (length buffer) → house ≡ datagramHouse x memory buffer
+unfolding datagramHouse
+by-sizes x memory buffer e = e
 
 -- ---- the numbers of an answer
 

@@ -3,24 +3,20 @@ use Prim.Native.Nat.{ℕ}
 use mathlib.Core.Bool.{cond}
 use mathlib.Core.List.{List}
 use mathlib.Core.Path.{_≡_}
-use lib.Dec.{ltb}
 use lib.ListN.{length}
-use Rattle.house.specs.HouseNumbers.{isGood, orElse, descriptionHouse}
+use Rattle.house.specs.HouseNumbers.{isGood}
 use Rattle.house.specs.declared.HouseNumber.{HouseNumber}
-use Rattle.house.specs.declared.HouseNumber.the-variants.{Good, B6}
+use Rattle.house.specs.declared.HouseNumber.the-variants.{Good}
+use Rattle.description.specs.Calls.{callHouse}
 use Rattle.reply.specs.Answers.{answerOf, bufferOf, SmallAnswer}
 use Rattle.access.specs.Access.{Changes}
-use Rattle.handler.specs.Performing.{Fixed, Contents, Outcome, handle}
+use Rattle.handler.specs.Handling.{Fixed, Contents, Outcome, handle}
 use Rattle.datagram.specs.declared.Handled.{Handled}
 use Rattle.datagram.specs.declared.Handled.the-variants.{Refused, Answered}
 
--- "B6: reply buffer under 72 bytes."
-abbrev pub bufferHouse : List ℕ → HouseNumber
-bufferHouse buffer = cond (ltb (length buffer) 72) B6 Good
-
 -- The first of B1 to B6 that applies.
 unfoldable pub datagramHouse : Fixed → List ℕ → List ℕ → HouseNumber
-datagramHouse x memory buffer = orElse (descriptionHouse (x .alias) (x .spaces) (length (x .flash)) (length memory)) (bufferHouse buffer)
+datagramHouse x memory buffer = callHouse (x .alias) (x .spaces) (length (x .flash)) (length memory) (length buffer)
 
 -- What the caller finds after a call: the answer or the house number, and the lock, the reply buffer and memory.
 pub record Final : Type 0 where

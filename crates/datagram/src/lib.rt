@@ -1,36 +1,14 @@
 // The call for a whole datagram: the house numbers B1 to B6, and then the datagram handled.
 use house::HouseNumber;
 use reply::Answer;
-ghost use mathlib.Core.Path.{_≡_};
 ghost use Rattle.board.specs.Table.{spacesIn};
-ghost use Rattle.handler.specs.Performing.{fixed, contents};
-ghost use Rattle.datagram.specs.Datagram.{datagramHouse, datagramCall, Ends, SmallHandled, HandledChanges};
+ghost use Rattle.handler.specs.Handling.{fixed, contents};
+ghost use Rattle.datagram.specs.Datagram.{datagramCall, Ends, SmallHandled, HandledChanges};
 
 // What comes of a call: a house number, or an answer to send.
 pub enum Handled {
     Refused(HouseNumber),
     Answered(Answer),
-}
-
-// The first of the house numbers B1 to B6 that applies.
-pub fn check(
-    alias: u16,
-    write_lengths: u8,
-    spaces: &[u8],
-    flash: &[u8],
-    memory: &[u8],
-    out: &[u8],
-) -> HouseNumber
-    ensures { λ r. ⌜ r ≡ datagramHouse (fixed alias «write_lengths» (spacesIn (now (spaces .entry))) (now (flash .entry))) (now (memory .entry)) (now (out .entry)) ⌝ }
-{
-    let house = house::check_description(alias, spaces, flash.len(), memory.len());
-    if !house::is_good(house) {
-        return house;
-    }
-    if out.len() < 72 {
-        return HouseNumber::B6;
-    }
-    HouseNumber::Good
 }
 
 // Handles a datagram that is handed over whole.
@@ -48,7 +26,7 @@ pub fn handle_datagram(
     ensures small { λ r. ⌜ SmallHandled r ⌝ }
     ensures changes { λ r. ⌜ HandledChanges r (now (memory .entry)) (now (memory .exit)) ⌝ }
 {
-    let house = check(alias, write_lengths, spaces, flash, &memory[..], &out[..]);
+    let house = description::check_call(alias, spaces, flash.len(), memory.len(), out.len());
     if !house::is_good(house) {
         return Handled::Refused(house);
     }

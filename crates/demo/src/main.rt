@@ -1,6 +1,6 @@
 // The demonstration program of document 01: reads GridConnect lines from standard input to its end, and prints what the demonstration
 // board answers to each. What it prints is the library's (crate `session`): this program only reads and writes.
-use lines::Carry;
+use input::Carry;
 
 mod standard;
 
@@ -102,7 +102,7 @@ fn main() {
     let mut places = reception::new_places();
     let mut input = io::large_buffer();
     let mut out = io::large_buffer();
-    let mut carry = lines::start();
+    let mut carry = input::start();
     let mut more = true;
     let mut reads = u64::MAX;
     while reads > 0 && more {

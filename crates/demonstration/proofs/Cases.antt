@@ -14,7 +14,7 @@ use Rattle.buffer.specs.Buffer.{putAt, placed}
 use Rattle.reply.specs.Replies.{replyHead}
 use Rattle.inquiry.specs.Inquiry.{informationReply}
 use Rattle.access.specs.Access.{readResult, writeResult, memoryAfter}
-use Rattle.handler.specs.Performing.{Outcome, outcome, perform, handle}
+use Rattle.handler.specs.Handling.{Outcome, outcome, perform, handle}
 use Rattle.demonstration.specs.Board.{rowOf, demoSpaces, demoFlash, demoMemory, demoFixed, demoContents}
 use Rattle.demonstration.specs.Cases.{cases, ProvedCases}
 

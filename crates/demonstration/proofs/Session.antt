@@ -11,18 +11,23 @@ use Rattle.command.specs.Decoding.{decodeRead, decodeWrite, decodeMasked, decod
 use Rattle.reception.specs.Order.{handleFrame}
 use Rattle.reception.specs.PlaceBytes.{placesIn}
 use Rattle.reception.specs.Reception.{isFor, joinSound, receive}
-use Rattle.cutting.specs.Cutting.{restFrames, framesOf, cutFrames}
-use Rattle.cutting.specs.Transport.{receivedOk, rejectedWith}
+use Rattle.fragments.specs.Cutting.{restFrames, framesOf, cutFrames}
+use Rattle.transport.specs.Transport.{receivedOk, rejectedWith}
 use Rattle.reply.specs.Replies.{replyHead}
-use Rattle.access.specs.Access.{readResult, writeResult, memoryAfter, masked, storeMasked}
-use Rattle.handler.specs.Performing.{perform, handle}
+use Rattle.storing.specs.Storing.{masked, storeMasked}
+use Rattle.access.specs.Access.{readResult, writeResult, memoryAfter}
+use Rattle.handler.specs.Handling.{perform, handle}
 use Rattle.datagram.specs.Datagram.{datagramHouse}
 use Rattle.node.specs.Frames.{frameCall}
 use Rattle.sending.specs.Sending.{framesToSend}
-use Rattle.hex.specs.Digits.{digitValue, digitOf, allDigits, digitsOf, bytesIn, hexDigits, numberFrom}
-use Rattle.gridconnect.specs.Line.{lineOf, formed, parseOf, frameText}
+use Rattle.digit.specs.Digit.{digitValue, digitOf}
+use Rattle.hex.specs.Digits.{digitsOf, hexDigits}
+use Rattle.unhex.specs.Reading.{allDigits, bytesIn, numberFrom}
+use Rattle.gridconnect.specs.Line.{lineOf, frameText}
+use Rattle.marks.specs.Form.{formed}
+use Rattle.parsing.specs.Parsing.{parseOf}
 use Rattle.printing.specs.Printing.{framesText}
-use Rattle.lines.specs.Input.{completed, unfinished, endLine}
+use Rattle.input.specs.Input.{completed, unfinished, endLine}
 use Rattle.turn.specs.Turn.{answerLine}
 use Rattle.session.specs.Session.{answerLines}
 use Rattle.demonstration.specs.PaperSession.{PaperSession}

@@ -7,8 +7,8 @@ use Rattle.house.specs.declared.HouseNumber.{HouseNumber}
 use Rattle.frame.specs.declared.Frame.{Frame}
 use Rattle.reception.specs.Order.{FrameResult}
 use Rattle.reply.specs.Answers.{Result}
-use Rattle.access.specs.Access.{OnlyWithin}
-use Rattle.handler.specs.Performing.{Contents}
+use Rattle.storing.specs.Storing.{OnlyWithin}
+use Rattle.handler.specs.Handling.{Contents}
 use Rattle.datagram.specs.Datagram.{Final}
 use Rattle.node.specs.Frames.{frameAnswerOf, frameBufferOf}
 use Rattle.result.specs.Result.{handledResult, frameResult}

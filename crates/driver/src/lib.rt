@@ -1,26 +1,27 @@
 // The edge to C: what a CAN driver calls. Everything is lent: a slice is a pointer and then a length, an array of a fixed length is a
 // pointer. What comes of a call is numbers in two registers.
 use frame::Frame;
-use gridconnect::Parsed;
-use lines::Carry;
-use lines::Next;
+use input::Carry;
+use input::Next;
+use parsing::Parsed;
 use result::CallResult;
 ghost use mathlib.Core.Path.{_≡_};
 ghost use mathlib.Core.List.{[]};
 ghost use lib.ListN.{length};
 ghost use Rattle.buffer.specs.Buffer.{over};
 ghost use Rattle.frame.specs.Frame.{canFrame, sourceOf};
-ghost use Rattle.frame.specs.Layout.{framesBytes};
+ghost use Rattle.layout.specs.Layout.{framesBytes};
 ghost use Rattle.board.specs.Table.{spacesIn};
 ghost use Rattle.reception.specs.PlaceBytes.{stateIn};
-ghost use Rattle.cutting.specs.Cutting.{cutFrames};
-ghost use Rattle.cutting.specs.Transport.{receivedOk, rejectedWith};
-ghost use Rattle.handler.specs.Performing.{fixed, contents};
+ghost use Rattle.fragments.specs.Cutting.{cutFrames};
+ghost use Rattle.transport.specs.Transport.{receivedOk, rejectedWith};
+ghost use Rattle.handler.specs.Handling.{fixed, contents};
 ghost use Rattle.datagram.specs.Datagram.{datagramCall};
 ghost use Rattle.node.specs.Frames.{frameCall, Keeps};
 ghost use Rattle.sending.specs.Sending.{sentFor};
-ghost use Rattle.gridconnect.specs.Line.{parseOf, frameText, Printed};
-ghost use Rattle.lines.specs.Input.{carryOf, line, nextOf, lastOf};
+ghost use Rattle.gridconnect.specs.Line.{frameText, Printed};
+ghost use Rattle.parsing.specs.Parsing.{parseOf};
+ghost use Rattle.input.specs.Input.{carryOf, line, nextOf, lastOf};
 ghost use Rattle.driver.specs.Returns.{DatagramReturns, FrameReturns};
 
 // The version of this edge, major in the upper 16 bits and minor in the lower: a header of the same major and of no greater minor fits.
@@ -54,7 +55,7 @@ pub extern "C" fn bujorelm_handle_frame(
     ensures keeps { λ _. ⌜ Keeps (frameCall (fixed alias «write_lengths» (spacesIn (now (spaces .entry))) (now (flash .entry))) (now (reply .entry)) (stateIn (now (places .entry)) (now (pool .entry))) (contents (now (memory .entry)) (now (lock .entry))) (canFrame header (now (payload .entry)))) (now (places .entry)) (now (places .exit)) (now (pool .exit)) ⌝ }
     ensures sent { λ _. ⌜ now (frames .exit) ≡ over (framesBytes (sentFor alias (sourceOf header) ((frameCall (fixed alias «write_lengths» (spacesIn (now (spaces .entry))) (now (flash .entry))) (now (reply .entry)) (stateIn (now (places .entry)) (now (pool .entry))) (contents (now (memory .entry)) (now (lock .entry))) (canFrame header (now (payload .entry)))) .answer))) (now (frames .entry)) ⌝ }
 {
-    let sent = sending::answer_frame(
+    let sent = bus::answer_frame(
         alias,
         write_lengths,
         spaces,
@@ -124,7 +125,7 @@ pub extern "C" fn bujorelm_received_ok(
     ensures count { λ r. ⌜ r ≡ length (receivedOk board tool flags) ⌝ }
     ensures bytes { λ _. ⌜ now (frames .exit) ≡ over (framesBytes (receivedOk board tool flags)) (now (frames .entry)) ⌝ }
 {
-    cutting::received_ok(board, tool, flags, frames)
+    transport::received_ok(board, tool, flags, frames)
 }
 
 // The frame of Rejected with its code, and the number of frames made.
@@ -138,7 +139,7 @@ pub extern "C" fn bujorelm_rejected(
     ensures count { λ r. ⌜ r ≡ length (rejectedWith board tool code) ⌝ }
     ensures bytes { λ _. ⌜ now (frames .exit) ≡ over (framesBytes (rejectedWith board tool code)) (now (frames .entry)) ⌝ }
 {
-    cutting::rejected(board, tool, code, frames)
+    transport::rejected(board, tool, code, frames)
 }
 
 // Reads a GridConnect line without its newline.
@@ -146,7 +147,7 @@ pub extern "C" fn bujorelm_rejected(
 pub extern "C" fn bujorelm_parse_line(line: &[u8]) -> Parsed
     ensures { λ r. ⌜ r ≡ parseOf (now (line .entry)) ⌝ }
 {
-    gridconnect::parse_line(line)
+    parsing::parse_line(line)
 }
 
 // Prints a frame as a GridConnect line with its newline, from an index of the buffer on.
@@ -172,7 +173,7 @@ fn completed(parsed: Parsed, at: usize) -> Next
                 bytes,
             },
         },
-        carry: lines::start(),
+        carry: input::start(),
         at,
     }
 }

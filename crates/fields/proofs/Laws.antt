@@ -1,14 +1,14 @@
 -- Laws of the fields of a datagram.
 -- Assumes nothing.
-use Prim.Native.Nat.{ℕ, _+_, _-_, _≤_, _<_}
+use Prim.Native.Nat.{ℕ, _+_, _-_, _/_, _≤_, _<_}
 use mathlib.Core.Path.{_≡_, refl}
 use mathlib.Core.Bool.{Bool, true, false}
-use mathlib.Core.List.{List}
+use mathlib.Core.List.{List, [], _∷_}
 use native.Mathlib.Omega.{arith}
 use lib.Dec.{leb, eqb}
-use lib.ListN.{drop}
+use lib.ListN.{length, drop}
 use borrow.Author.Tests.{ne-eqb, le-leb, leb-true, eqb-true, eqb-false}
-use Rattle.fields.specs.Commands.{within, kindOf, lowForm, formIn, headLength, spaceOf, restOf}
+use Rattle.fields.specs.Commands.{pairsOf, within, kindOf, lowForm, formIn, headLength, spaceOf, restOf}
 use Rattle.fields.specs.declared.Kind.the-variants.{Read, Write, WriteMasked, Unknown}
 
 -- ---- a number in a range, and out of it
@@ -59,3 +59,11 @@ low-space d low h z = go (eqb low 1) refl (eqb low 2) refl
     go true p t q = rw (ne-eqb low 0 z, p) (omega (arith, eqb-true low 1 p))
     go false p true q = rw (ne-eqb low 0 z, p, q) (omega (arith, eqb-true low 2 q))
     go false p false q = rw (ne-eqb low 0 z, p, q) (omega (arith, z, eqb-false low 1 p, eqb-false low 2 q))
+
+-- ---- the pairs of a masked write
+
+pub pairs-length : (l : List ℕ) → length (pairsOf l) ≡ length l / 2
+unfolding pairsOf
+pairs-length [] = refl
+pairs-length (m ∷ []) = refl
+pairs-length (m ∷ v ∷ more) = let ih = pairs-length more in omega arith

@@ -1,9 +1,7 @@
 // The fields of a datagram, each read from the datagram itself.
-mod view;
-
 ghost use mathlib.Core.Path.{_≡_};
 ghost use lib.ListN.{getD, drop};
-ghost use Rattle.fields.specs.Commands.{kindOf, formOf, formIn, headLength, addressOf, spaceOf, restOf};
+ghost use Rattle.fields.specs.Commands.{kindOf, formOf, formIn, headLength, addressOf, spaceOf};
 
 // Where a command names its space: nowhere, in byte 6, or by the low two bits 1, 2, 3 of byte 1.
 pub enum Form {
@@ -92,7 +90,7 @@ pub fn form_in(datagram: &[u8]) -> Form
     form_of(command_in(datagram))
 }
 
-fn address_in(datagram: &[u8]) -> u32
+pub fn address_in(datagram: &[u8]) -> u32
     ensures { λ r. ⌜ r ≡ addressOf (now (datagram .entry)) ⌝ }
 {
     buffer::number(
@@ -104,7 +102,7 @@ fn address_in(datagram: &[u8]) -> u32
 }
 
 // The number of the space: byte 6 where the low two bits are 0, and else from 0xFD on by them; 0 where the command names none.
-fn space_in(datagram: &[u8], command: u8) -> u8
+pub fn space_in(datagram: &[u8], command: u8) -> u8
     ensures { λ r. ⌜ r ≡ spaceOf (formOf command) (now (datagram .entry)) ⌝ }
 {
     if 0x80 <= command {
@@ -118,7 +116,7 @@ fn space_in(datagram: &[u8], command: u8) -> u8
 }
 
 // The bytes behind a datagram's command, address and space byte.
-fn remaining_in(datagram: &[u8], command: u8) -> &[u8]
+pub fn remaining_in(datagram: &[u8], command: u8) -> &[u8]
     ensures { λ r. ⌜ now r ≡ drop (headLength (formOf command)) (now (datagram .entry)) ⌝ }
 {
     let head = head_length(form_of(command));
@@ -127,28 +125,4 @@ fn remaining_in(datagram: &[u8], command: u8) -> &[u8]
         return &datagram[end..];
     }
     &datagram[head..]
-}
-
-// The space and the address that a read, a write or a masked write names.
-pub struct Target {
-    pub space: u8,
-    pub address: u32,
-}
-
-// Both, read through the view. Its proof goes by hand, as that of `rest`: a local holds a view.
-pub fn target_of(datagram: &[u8]) -> Target
-    ensures { λ r. ⌜ (r .space ≡ spaceOf (formIn (now (datagram .entry))) (now (datagram .entry))) × (r .address ≡ addressOf (now (datagram .entry))) ⌝ }
-{
-    let view = view::view_of(datagram);
-    Target {
-        space: view::space(view),
-        address: view.address,
-    }
-}
-
-// The remaining bytes of a datagram: those behind its command, address and space byte.
-pub fn rest(datagram: &[u8]) -> &[u8]
-    ensures { λ r. ⌜ now r ≡ restOf (now (datagram .entry)) ⌝ }
-{
-    view::remaining(view::view_of(datagram))
 }

@@ -1,87 +1,13 @@
-// GridConnect: a frame as a line of text, read and printed.
+// GridConnect: a frame printed as a line of text.
 use frame::Frame;
 ghost use mathlib.Core.Path.{_≡_};
 ghost use Prim.Native.Nat.{_+_, _*_, _≤_, _<_};
-ghost use mathlib.Core.List.{[], _∷_};
+ghost use mathlib.Core.List.{[], _∷_, _++_};
 ghost use lib.Dec.{leb};
 ghost use lib.ListN.{length};
 ghost use Rattle.buffer.specs.Buffer.{placed};
-ghost use Rattle.gridconnect.specs.Line.{parseOf, bad, formed, frameText, unknownText, Printed, ReadBack};
-
-// What a line stands for: a bad one has an all-zero frame.
-#[repr(C)]
-pub struct Parsed {
-    pub good: bool,
-    pub frame: Frame,
-}
-
-// What a line that stands for no frame is read as.
-pub fn bad_line() -> Parsed
-    ensures { λ r. ⌜ r ≡ bad ⌝ }
-{
-    Parsed {
-        good: false,
-        frame: Frame {
-            header: 0,
-            len: 0,
-            bytes: [0u8; 8],
-        },
-    }
-}
-
-// Whether the line has the marks and the length of one.
-fn is_formed(line: &[u8]) -> bool
-    ensures { λ r. ⌜ r ≡ formed (now (line .entry)) ⌝ }
-{
-    let n = line.len();
-    if n < 12 {
-        return false;
-    }
-    if n > 28 {
-        return false;
-    }
-    if n & 1 != 0 {
-        return false;
-    }
-    if line[0] != b':' {
-        return false;
-    }
-    if line[1] != b'X' {
-        return false;
-    }
-    if line[10] != b'N' {
-        return false;
-    }
-    line[n - 1] == b';'
-}
-
-// Reads a line, which is handed in without its newline. Every header of eight digits is taken: which ones are used is not decided here.
-pub fn parse_line(line: &[u8]) -> Parsed
-    ensures { λ r. ⌜ r ≡ parseOf (now (line .entry)) ⌝ }
-    ensures read_back { λ _. ⌜ ReadBack ⌝ }
-{
-    if !is_formed(line) {
-        return bad_line();
-    }
-    let header = hex::read_number(&line[2..10]);
-    if !header.good {
-        return bad_line();
-    }
-    let end = line.len() - 1;
-    let body = hex::read_bytes(&line[11..end]);
-    if !body.good {
-        return bad_line();
-    }
-    let bytes = body.bytes;
-    Parsed {
-        good: true,
-        frame: Frame {
-            header: header.value,
-            len: body.len,
-            bytes,
-        },
-    }
-}
+ghost use Rattle.hex.specs.Digits.{hexDigits};
+ghost use Rattle.gridconnect.specs.Line.{frameText, unknownText, Printed};
 
 // Whether a buffer of `size` bytes has `n` of them from index `at` on.
 fn has_room(size: usize, at: usize, n: usize) -> bool
@@ -108,6 +34,16 @@ fn put_pair(out: &mut [u8], at: usize, a: u8, b: u8)
     out[at + 1] = b;
 }
 
+// Puts what a line starts with: `:X`, the header's digits, `N`.
+fn put_head(header: u32, out: &mut [u8], at: usize)
+    requires { ⌜ at + 11 ≤ length (now out) ⌝ }
+    ensures { λ _. ⌜ now (out .exit) ≡ placed at (58 ∷ 88 ∷ (hexDigits 8 header ++ 78 ∷ [])) (now (out .entry)) ⌝ }
+{
+    put_pair(out, at, b':', b'X');
+    hex::put_number(header, out, at + 2);
+    put_byte(out, at + 10, b'N');
+}
+
 // Puts the frame's line and a newline into `out` from index `at` on.
 fn put_line(frame: Frame, out: &mut [u8], at: usize)
     requires { ⌜ (frame .len ≤ 8) × (at + (13 + frame .len * 2) ≤ length (now out)) ⌝ }
@@ -115,9 +51,7 @@ fn put_line(frame: Frame, out: &mut [u8], at: usize)
 {
     let n = frame.len as usize;
     let bytes = frame.bytes;
-    put_pair(out, at, b':', b'X');
-    hex::put_number(frame.header, out, at + 2);
-    put_byte(out, at + 10, b'N');
+    put_head(frame.header, out, at);
     hex::put_digits(&bytes[..n], out, at + 11);
     put_pair(out, at + (11 + n + n), b';', b'\n');
 }

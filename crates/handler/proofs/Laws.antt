@@ -18,14 +18,21 @@ use Rattle.fields.specs.Commands.{Request, read, write, writeMasked, options, i
 use Rattle.fields.specs.declared.Form.{Form}
 use Rattle.fields.specs.declared.Form.the-variants.{NoSpace, Byte6, Fd, Fe, Ff}
 use Rattle.command.specs.Decoding.{Reading, rejected, request, decode}
+use Rattle.command.proofs.Laws.{Allowed, allowed}
 use Rattle.reply.specs.Replies.{replyHead}
 use Rattle.inquiry.specs.Inquiry.{informationReply, accessFlag}
 use Rattle.reply.specs.Answers.{Result, datagramRejected, written, updateCompleted, receivedOkReply, fitted}
-use Rattle.access.specs.Access.{access, readResult, writeResult, storeBytes, storeMasked, OnlyWithin}
-use Rattle.access.specs.declared.Access.{Access}
-use Rattle.access.specs.declared.Access.the-variants.{Fails, Reaches}
-use Rattle.access.proofs.Laws.{bytes-within, pairs-within, write-changes, writes-fit}
-use Rattle.handler.specs.Performing.{Fixed, Contents, foundIn, outcome, writeOutcome, perform, answerReading, handle, Short, Inside, Bounds, HandleBounds}
+use Rattle.reply.specs.declared.Answer.{Answer}
+use Rattle.reach.specs.Reach.{access}
+use Rattle.reach.proofs.Laws.{writes-fit}
+use Rattle.storing.specs.Storing.{storeBytes, storeMasked, OnlyWithin}
+use Rattle.storing.proofs.Laws.{bytes-within, pairs-within}
+use Rattle.access.specs.Access.{readResult, writeResult}
+use Rattle.reach.specs.declared.Access.{Access}
+use Rattle.reach.specs.declared.Access.the-variants.{Fails, Reaches}
+use Rattle.access.proofs.Laws.{write-changes}
+use Rattle.performing.specs.Performing.{Fixed, Contents, foundIn, outcome, writeOutcome, perform, SixBytes, Performed}
+use Rattle.handler.specs.Handling.{answerReading, handle, Short, Performs, Inside, Bounds, HandleBounds}
 
 -- ---- the lengths of the replies
 
@@ -44,17 +51,17 @@ behind-head : (command : ℕ) (form : Form) (space address : ℕ) (bytes : List 
 behind-head command form space address bytes h =
     rw (length-append (replyHead command form space address) bytes) (omega (arith, head-at-most command form space address, h))
 
-pub read-short : (flash memory : List ℕ) (form : Form) (space address count : ℕ) (a : Access) → count ≤ 64 → Short (readResult flash memory form space address count a)
+read-short : (flash memory : List ℕ) (form : Form) (space address count : ℕ) (a : Access) → count ≤ 64 → Short (readResult flash memory form space address count a)
 unfolding readResult
 read-short flash memory form space address count (Fails code) h = behind-head 0x58 form space address _ (omega arith)
 read-short flash memory form space address count (Reaches s) h = behind-head 0x50 form space address _ (rw length-take (omega arith))
 
-pub write-short : (form : Form) (space address n : ℕ) (a : Access) → n ≤ 64 → Short (writeResult form space address n a)
+write-short : (form : Form) (space address n : ℕ) (a : Access) → n ≤ 64 → Short (writeResult form space address n a)
 unfolding writeResult
 write-short form space address n (Fails code) h = behind-head 0x18 form space address _ (omega arith)
 write-short form space address n (Reaches s) h = h
 
-pub information-short : (n : ℕ) (found : Found) → length (informationReply n found) ≤ 72
+information-short : (n : ℕ) (found : Found) → length (informationReply n found) ≤ 72
 unfolding informationReply
 information-short n (Described s) =
     let l : length (cond (eqb (s .lowest) 0) (accessFlag s ∷ []) ((accessFlag s + 2) ∷ bytesOf (s .lowest))) ≤ 5 =
@@ -62,6 +69,27 @@ information-short n (Described s) =
     omega (arith, l)
 information-short n (Empty readOnly) = omega arith
 information-short n Unknown = omega arith
+
+-- of every request that a datagram can make
+pub perform-short : (x : Fixed) (c : Contents) (form : Form) (q : Request) → Allowed q → {held : List ℕ} → held ≡ perform x c form q .contents .lock →
+    SixBytes q held → Short (perform x c form q .result)
+unfolding perform
+perform-short x c form (read space address count) a e z = read-short _ _ form space address count (access false (foundIn x space) address 1) (a .1)
+perform-short x c form (write space address bytes) a e z = write-short form space address (length bytes) (access true (foundIn x space) address (length bytes)) (a .1)
+perform-short x c form (writeMasked space address pairs) a e z =
+    write-short form space address (length pairs) (access true (foundIn x space) address (length pairs)) (omega (arith, a .1))
+perform-short x c form options a e z = omega arith
+perform-short x c form (information space) a e z = information-short space (foundIn x space)
+perform-short x c form (reserve id) a e z = let l = ap (λ (h : List ℕ). length h) e in omega (arith, l, z)
+perform-short x c form updateComplete a e z = tt
+
+-- a request performed, as the answer to its datagram
+pub request-handled : (x : Fixed) (c : Contents) (d : List ℕ) {form : Form} {q : Request} → decode d ≡ request form q →
+    {r : Answer} {before after stored held : List ℕ} → Performed x c form q r before after stored held → Performs (handle x c d) r before after stored held
+unfolding handle
+request-handled x c d {form} {q} e p =
+    let a : Allowed q = rw e at (allowed d) in
+    rw e (record { answer = p .answer; memory = p .memory; lock = p .lock; short = perform-short x c form q a (p .lock) (p .six) })
 
 -- a buffer of 72 bytes takes every such reply whole
 pub whole : (r : Result) (buffer : List ℕ) → Short r → 72 ≤ length buffer → fitted r buffer ≡ r

@@ -1,11 +1,8 @@
 // A datagram handled whole: decoded, and what it asks for performed.
 use command::Decoded;
 use reply::Answer;
-
-mod perform;
-
 ghost use Rattle.board.specs.Table.{spacesIn};
-ghost use Rattle.handler.specs.Performing.{fixed, contents, handle, Performs, HandleBounds};
+ghost use Rattle.handler.specs.Handling.{fixed, contents, handle, Performs, HandleBounds};
 
 // Handles a datagram; the house numbers are the caller's to test. A reply that has no room in the buffer is not written.
 pub fn handle(
@@ -27,7 +24,7 @@ pub fn handle(
             return Answer::Rejected(code);
         }
         Decoded::Accepted(form, command) => {
-            return perform::perform(
+            return performing::perform(
                 alias,
                 write_lengths,
                 spaces,

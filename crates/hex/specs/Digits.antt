@@ -1,86 +1,14 @@
--- Document 01, "The demonstration board": "eight header digits, `N`, 0–16 data digits in pairs, .. digits 0–9 and A–F". What digits stand
--- for, and the digits of bytes and of a number.
-use Prim.Native.Nat.{ℕ, zero, suc, _+_, _-_, _*_, _/_, _%_, _^_, _≤_, _<_}
-use mathlib.Core.Path.{_≡_}
-use mathlib.Core.Bool.{Bool, true, false, cond, _&&_}
+-- Document 01, "The demonstration board": "eight header digits, `N`, 0–16 data digits in pairs". The digits of bytes and of a number.
+use Prim.Native.Nat.{ℕ, zero, suc, _/_, _%_}
 use mathlib.Core.List.{List, [], _∷_, _++_}
-use lib.Dec.{leb, ltb, eqb}
-use lib.ListN.{length, getD, replicate}
-use Rattle.hex.specs.declared.Bytes.{Bytes}
-use Rattle.hex.specs.declared.Number.{Number}
-
--- ---- one digit
-
--- "digits 0–9 and A–F": the value of a digit, and 16 for any other byte.
-unfoldable pub digitValue : ℕ → ℕ
-digitValue c = cond (leb 48 c && leb c 57) (c - 48) (cond (leb 65 c && leb c 70) (c - 65 + 10) 16)
-
--- The digit of a value below 16.
-unfoldable pub digitOf : ℕ → ℕ
-digitOf v = cond (ltb v 10) (48 + v) (65 + (v - 10))
-
-unfoldable pub allDigits : List ℕ → Bool
-allDigits [] = true
-allDigits (c ∷ more) = leb (digitValue c) 15 && allDigits more
-
--- ---- bytes
+use Rattle.digit.specs.Digit.{digitOf}
 
 -- Bytes as text: two digits to a byte, the upper one first.
 unfoldable pub digitsOf : List ℕ → List ℕ
 digitsOf [] = []
 digitsOf (b ∷ more) = digitOf (b / 16) ∷ digitOf (b % 16) ∷ digitsOf more
 
--- The bytes that pairs of digits stand for.
-unfoldable pub bytesIn : List ℕ → List ℕ
-bytesIn [] = []
-bytesIn (a ∷ []) = []
-bytesIn (a ∷ b ∷ more) = (digitValue a * 16 + digitValue b) ∷ bytesIn more
-
--- "0–16 data digits in pairs"
-abbrev pub paired : List ℕ → Bool
-paired text = leb (length text) 16 && eqb (length text % 2) 0
-
--- At most eight bytes: behind them stand zeros.
-abbrev pub someBytes : List ℕ → Bytes
-someBytes bs = record { good = true; len = length bs; bytes = bs ++ replicate (8 - length bs) 0 }
-
--- What is read from any other text.
-abbrev pub noBytes : Bytes
-noBytes = record { good = false; len = 0; bytes = replicate 8 0 }
-
-unfoldable pub readOf : List ℕ → Bytes
-readOf text = cond (paired text && allDigits text) (someBytes (bytesIn text)) noBytes
-
--- Bytes that were printed are read back from their digits.
-abbrev pub BytesBack : Type 0
-BytesBack = (bs : List ℕ) → length bs ≤ 8 → ((i : ℕ) → getD bs i 0 < 256) → readOf (digitsOf bs) ≡ someBytes bs
-
--- ---- a number
-
 -- The last n hexadecimal digits of a number, most significant first.
 unfoldable pub hexDigits : ℕ → ℕ → List ℕ
 hexDigits zero x = []
 hexDigits (suc n) x = hexDigits n (x / 16) ++ digitOf (x % 16) ∷ []
-
--- The number that digits stand for, behind others that stand for `before`.
-unfoldable pub numberFrom : ℕ → List ℕ → ℕ
-numberFrom before [] = before
-numberFrom before (c ∷ more) = numberFrom (before * 16 + digitValue c) more
-
-abbrev pub numberIn : List ℕ → ℕ
-numberIn text = numberFrom 0 text
-
-abbrev pub number : ℕ → Number
-number x = record { good = true; value = x }
-
--- What is read from a text that is not eight digits.
-abbrev pub noNumber : Number
-noNumber = record { good = false; value = 0 }
-
--- "eight header digits"
-unfoldable pub readNumber : List ℕ → Number
-readNumber text = cond (eqb (length text) 8 && allDigits text) (number (numberIn text)) noNumber
-
--- A number of 32 bits that was printed is read back from its eight digits.
-abbrev pub NumberBack : Type 0
-NumberBack = (x : ℕ) → x < 2 ^ 32 → readNumber (hexDigits 8 x) ≡ number x

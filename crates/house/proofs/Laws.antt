@@ -20,84 +20,9 @@ use Rattle.board.specs.Description.{sizeOf, storeOf, findSpace}
 use Rattle.board.specs.declared.Found.{Found}
 use Rattle.board.specs.declared.Found.the-variants.{Described, Empty, Unknown}
 use Rattle.board.specs.declared.Space.{Space}
-use Rattle.house.specs.HouseNumbers.{isGood, orElse, among, numbersOf, windowHouse, spaceHouse, spacesHouse, limitsPassed, descriptionHouse}
+use Rattle.house.specs.HouseNumbers.{isGood, orElse, among, numbersOf, windowHouse, spaceHouse, spacesHouse, limitsHouse, descriptionHouse}
 use Rattle.house.specs.declared.HouseNumber.{HouseNumber}
 use Rattle.house.specs.declared.HouseNumber.the-variants.{Good, B1, B2, B3, B4, B5, B6, B7}
-
--- ---- the numbers that are used
-
--- a look through the spaces of a table for a number, from space i on
-module _ (t : List ℕ) (i count n : ℕ) where
-  pub used-hit : i < count → getD t (16 * i) 0 ≡ n → among n (numbersOf (spacesFrom t i (count - i))) ≡ true
-  unfolding among numbersOf rowAt
-  used-hit h q = rw (table-next t i count h, eq-eqb (getD t (16 * i) 0) n q)
-
-  pub used-miss : i < count → (getD t (16 * i) 0 ≡ n → ⊥) → among n (numbersOf (spacesFrom t i (count - i))) ≡ among n (numbersOf (spacesFrom t (i + 1) (count - (i + 1))))
-  unfolding among numbersOf rowAt
-  used-miss h q = rw (table-next t i count h, ne-eqb (getD t (16 * i) 0) n q)
-
-  pub used-none : count ≤ i → among n (numbersOf (spacesFrom t i (count - i))) ≡ false
-  unfolding among numbersOf
-  used-none h = rw (table-done t i count h)
-
-numbers-suc : (t : List ℕ) (i n : ℕ) → numbersOf (spacesFrom t i (suc n)) ≡ numbersOf (spacesFrom t i n) ++ (getD t (16 * (i + n)) 0 ∷ [])
-unfolding numbersOf spacesFrom rowAt
-numbers-suc t i zero = let e : i ≡ i + 0 = omega arith in ap (λ (k : ℕ). getD t (16 * k) 0 ∷ []) e
-numbers-suc t i (suc n) =
-    let e : i + 1 + n ≡ i + suc n = omega (arith, add-one n) in
-    ap (λ (r : List ℕ). getD t (16 * i) 0 ∷ r) (rw (← e) (numbers-suc t (i + 1) n))
-
--- the numbers of the spaces before one that was read, and its own
-pub numbers-more : (t : List ℕ) (i : ℕ) {s : Space} → i < length (spacesIn t) → s ≡ spaceAt t i → numbersOf (spacesFrom t 0 (i + 1)) ≡ numbersOf (spacesFrom t 0 i) ++ (s .number ∷ [])
-unfolding rowAt
-numbers-more t i h e =
-    let z : 0 + i ≡ i = omega arith in
-    rw (add-one i, numbers-suc t 0 i, z, e, space-in t i (rw (← spaces-length t 0 (length t / 16)) h))
-
--- a mark for each number, the bit at its remainder: where it is not set, no earlier space has the number
-abbrev pub markOf : ℕ → ℕ
-markOf n = (1 * 2 ^ (n % 64)) % 2 ^ 64
-
-abbrev pub Marks : ℕ → List ℕ → Type 0
-Marks marks earlier = (k : ℕ) → bitAnd marks (markOf k) ≡ 0 → among k earlier ≡ false
-
-among-more : (k n : ℕ) (l : List ℕ) → among k (l ++ (n ∷ [])) ≡ (eqb n k || among k l)
-unfolding among
-among-more k n [] = refl
-among-more k n (m ∷ l) = rw (among-more k n l) (or-swap (eqb m k) (eqb n k) (among k l))
-  where
-    or-swap : (a b c : Bool) → (a || (b || c)) ≡ (b || (a || c))
-    or-swap true true c = refl
-    or-swap true false c = refl
-    or-swap false b c = refl
-
-mark-set : (n : ℕ) → markOf n ≡ 0 → ⊥
-mark-set n z =
-    let e : markOf n ≡ 1 * 2 ^ (n % 64) = shl-exact {a = 1} 1 (n % 64) 64 (lit< tt) (omega arith) in
-    absurd (omega (arith, e, pow-pos (n % 64)))
-
--- bits that are not set were not set before others were
-or-clear : (a b c : ℕ) → bitAnd (bitOr a b) c ≡ 0 → bitAnd a c ≡ 0
-or-clear a =
-    bin-ind (λ (n : ℕ). (b c : ℕ) → bitAnd (bitOr n b) c ≡ 0 → bitAnd n c ≡ 0) (λ b c z. and-zero-l c)
-    (λ n ih b c z.
-    let half : bitOr n b / 2 ≡ bitOr (n / 2) (b / 2) = omega (arith, or-step n b) in
-    let bit : bitOr n b % 2 ≡ max (n % 2) (b % 2) = omega (arith, or-step n b) in
-    let s : bitAnd (bitOr (n / 2) (b / 2)) (c / 2) * 2 + min (max (n % 2) (b % 2)) (c % 2) ≡ 0 = rw (← half, ← bit) (sym (and-step (bitOr n b) c) ∙ z) in
-    let rest : bitAnd (n / 2) (c / 2) ≡ 0 = ih (b / 2) (c / 2) (omega (arith, s)) in
-    omega (arith, and-step n c, rest, s)) a
-
-pub marks-none : Marks 0 []
-unfolding among
-marks-none k z = refl
-
-pub marks-more : (marks : ℕ) (earlier : List ℕ) (n : ℕ) → Marks marks earlier → Marks (bitOr marks (markOf n)) (earlier ++ (n ∷ []))
-marks-more marks earlier n m k z = rw (among-more k n earlier, ne-eqb n k other, m k (or-clear marks (markOf n) (markOf k) z))
-  where
-    other : n ≡ k → ⊥
-    other q =
-        let y : bitAnd (bitOr (markOf n) marks) (markOf n) ≡ 0 = ap (λ (w : ℕ). bitAnd w (markOf n)) (or-comm (markOf n) marks) ∙ ap (λ (j : ℕ). bitAnd (bitOr marks (markOf n)) (markOf j)) q ∙ z in
-        mark-set n (sym (and-self (markOf n)) ∙ or-clear (markOf n) marks (markOf n) y)
 
 -- ---- house numbers
 
@@ -119,6 +44,14 @@ module _ (h : HouseNumber) {g : Bool} (e : g ≡ isGood h) where
   pub tested-good : not g ≡ false → isGood h ≡ true
   tested-good q = sym e ∙ not-false g q
 
+-- the first of two house numbers by that test
+module _ {a : HouseNumber} (b : HouseNumber) {house : HouseNumber} {g : Bool} (v : g ≡ isGood house) (e : house ≡ a) where
+  pub first-counts : not g ≡ true → house ≡ orElse a b
+  first-counts q = rw (← e) (sym (cond-false (isGood house) b house (tested-bad house v q)))
+
+  pub second-counts : not g ≡ false → orElse a b ≡ b
+  second-counts q = rw (← e) (cond-true (isGood house) b house (tested-good house v q))
+
 -- what is not good is not Good
 pub bad : {h : HouseNumber} → isGood h ≡ false → h ≡ Good → ⊥
 bad {h} e q = clash (let z : _≡_ {A = Bool} true false = ap isGood (sym q) ∙ e in z)
@@ -130,35 +63,16 @@ orElse-good a b e = go (isGood a) refl
     go true q = (is-good a q, sym (cond-true (isGood a) b a q) ∙ e)
     go false q = absurd (bad q (sym (cond-false (isGood a) b a q) ∙ e))
 
--- a turn of the check, by the answer for the window and whether the number is used; and its end
-module _ (l : List Space) (i f m : ℕ) (earlier : List ℕ) {s : Space} {house : HouseNumber} {g : Bool}
-    (h : i < length l) (e : s ≡ getD l i noSpace) (w : house ≡ windowHouse f m s) (v : g ≡ isGood house) where
-  turn : spacesHouse f m earlier (drop i l) ≡ orElse (orElse house (cond (among (s .number) earlier) B5 Good)) (spacesHouse f m (earlier ++ (s .number ∷ [])) (drop (i + 1) l))
-  unfolding spacesHouse
-  turn = rw (add-one i, drop-cons l i noSpace h, w, e)
-
-  pub turn-refused : not g ≡ true → spacesHouse f m earlier (drop i l) ≡ house
-  turn-refused q = turn ∙ rw (tested-bad house v q, tested-bad house v q)
-
-  module _ (q : not g ≡ false) where
-    pub turn-used : among (s .number) earlier ≡ true → spacesHouse f m earlier (drop i l) ≡ B5
-    turn-used z = turn ∙ rw (tested-good house v q, z)
-
-    pub turn-good : among (s .number) earlier ≡ false → spacesHouse f m earlier (drop i l) ≡ spacesHouse f m (earlier ++ (s .number ∷ [])) (drop (i + 1) l)
-    turn-good z = turn ∙ rw (tested-good house v q, z)
-
-pub turn-none : (l : List Space) (i f m : ℕ) (earlier : List ℕ) → length l ≤ i → spacesHouse f m earlier (drop i l) ≡ Good
-unfolding spacesHouse
-turn-none l i f m earlier h = rw (drop-of-length-le l {i = i} h)
-
 module _ (alias : ℕ) (l : List Space) (f m : ℕ) (g : descriptionHouse alias l f m ≡ Good) where
-  pub good-limits : limitsPassed alias l f m ≡ false
+  parts : (limitsHouse alias (length l) f m ≡ Good) × (spacesHouse f m [] l ≡ Good)
   unfolding descriptionHouse
-  good-limits = cond-not (limitsPassed alias l f m) g (bad refl) .0
+  parts = orElse-good (limitsHouse alias (length l) f m) (spacesHouse f m [] l) g
+
+  pub good-limits : (ltb 16 (length l) || (ltb 65536 m || (ltb 65536 f || (eqb alias 0 || ltb 4095 alias)))) ≡ false
+  good-limits = cond-not _ (parts .0) (bad refl) .0
 
   pub good-spaces : spacesHouse f m [] l ≡ Good
-  unfolding descriptionHouse
-  good-spaces = cond-not (limitsPassed alias l f m) g (bad refl) .1
+  good-spaces = parts .1
 
 -- ---- a space that no house number refuses
 

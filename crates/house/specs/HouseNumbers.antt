@@ -62,11 +62,11 @@ spacesHouse flash memory earlier (s ∷ rest) =
     orElse (spaceHouse flash memory earlier s) (spacesHouse flash memory (earlier ++ (s .number ∷ [])) rest)
 
 -- "B1: over 16 spaces, memory or flash over 65,536 bytes, or alias not 1–4,095."
-abbrev pub limitsPassed : ℕ → List Space → ℕ → ℕ → Bool
-limitsPassed alias spaces flash memory =
-    ltb 16 (length spaces) || (ltb 65536 memory || (ltb 65536 flash || (eqb alias 0 || ltb 4095 alias)))
+abbrev pub limitsHouse : ℕ → ℕ → ℕ → ℕ → HouseNumber
+limitsHouse alias spaces flash memory =
+    cond (ltb 16 spaces || (ltb 65536 memory || (ltb 65536 flash || (eqb alias 0 || ltb 4095 alias)))) B1 Good
 
 -- The first of B1 to B5 that applies, by the sizes of flash and memory.
 unfoldable pub descriptionHouse : ℕ → List Space → ℕ → ℕ → HouseNumber
 descriptionHouse alias spaces flash memory =
-    cond (limitsPassed alias spaces flash memory) B1 (spacesHouse flash memory [] spaces)
+    orElse (limitsHouse alias (length spaces) flash memory) (spacesHouse flash memory [] spaces)

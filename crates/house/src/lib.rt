@@ -1,9 +1,7 @@
-// The house numbers of a description: B1 to B5 refuse a bad one.
-mod checks;
-
+// The house numbers: B1 by the sizes of a board, B2 to B4 of one space.
+use board::Space;
 ghost use mathlib.Core.Path.{_≡_};
-ghost use Rattle.board.specs.Table.{spacesIn};
-ghost use Rattle.house.specs.HouseNumbers.{isGood, descriptionHouse};
+ghost use Rattle.house.specs.HouseNumbers.{isGood, limitsHouse, windowHouse};
 
 // The house numbers of document 01 that a call can be refused with; `Good` where none applies.
 pub enum HouseNumber {
@@ -33,16 +31,16 @@ pub fn is_good(house: HouseNumber) -> bool
     }
 }
 
-// The first of the house numbers B1 to B5 that applies.
-pub fn check_description(
-    alias: u16,
-    spaces: &[u8],
-    flash_len: usize,
+// B1, by the number of spaces, the sizes of memory and flash, and the alias.
+pub fn check_limits(
+    space_count: usize,
     memory_len: usize,
+    flash_len: usize,
+    alias: u16,
 ) -> HouseNumber
-    ensures { λ r. ⌜ r ≡ descriptionHouse alias (spacesIn (now (spaces .entry))) «flash_len» «memory_len» ⌝ }
+    ensures { λ r. ⌜ r ≡ limitsHouse alias «space_count» «flash_len» «memory_len» ⌝ }
 {
-    if 16 < board::space_count(spaces) {
+    if 16 < space_count {
         return HouseNumber::B1;
     }
     if 65536 < memory_len {
@@ -57,5 +55,34 @@ pub fn check_description(
     if 4095 < alias {
         return HouseNumber::B1;
     }
-    checks::check_spaces(spaces, flash_len, memory_len)
+    HouseNumber::Good
+}
+
+// B2, B3 and B4 of one space.
+pub fn check_window(space: Space, flash_len: usize, memory_len: usize) -> HouseNumber
+    ensures { λ r. ⌜ r ≡ windowHouse «flash_len» «memory_len» space ⌝ }
+{
+    if space.highest < space.lowest {
+        return HouseNumber::B2;
+    }
+    let end = space.offset as usize + board::size_of(space);
+    if space.in_flash {
+        if flash_len < end {
+            return HouseNumber::B3;
+        }
+        if space.read_only {
+            return HouseNumber::Good;
+        }
+        return HouseNumber::B4;
+    }
+    if memory_len < end {
+        return HouseNumber::B3;
+    }
+    if space.read_only {
+        return HouseNumber::Good;
+    }
+    if space.number == 0xFF {
+        return HouseNumber::B4;
+    }
+    HouseNumber::Good
 }

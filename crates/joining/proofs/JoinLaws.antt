@@ -24,7 +24,7 @@ use Rattle.reception.specs.Reception.{State, placeOf, freeIn, hasPlace, full, s
 use Rattle.reception.specs.PlaceBytes.{placesIn, placeBytes, stateIn}
 use Rattle.reception.proofs.PlaceLaws.{isFor-held, good-short, sound-good, place-found, place-out, free, free-out, blank-of}
 use Rattle.reception.proofs.ByteLaws.{places-length, renewed-same, Changed, changed-places, changed-bytes, differ-held, differ-len}
-use Rattle.places.specs.Search.{lookedUp}
+use Rattle.sources.specs.Search.{lookedUp}
 use Rattle.joining.specs.declared.Outcome.{Outcome}
 use Rattle.joining.specs.declared.Outcome.the-variants as outcome
 use Rattle.joining.specs.Joins.{eventOf, InsidePool, Joins}
@@ -74,9 +74,9 @@ module _ (i n : ℕ) (last : Bool) (d pool xs : List ℕ) (m : Lent pool d) (u :
   put = a ∙ placed-fits (72 * i + n) d pool (omega (arith, u .inside, u .total, m .pool))
 
   pub append-done : last ≡ false → (s : ℕ) → Changed i (heldFor s (n + length d)) xs after →
-      Joins (performed (cond last Close Append) true s i d st) d outcome.NoAnswer xs after bytes
+      Joins (performed Append true s i d st) d outcome.NoAnswer xs after bytes
   append-done l s c =
-      rw (l, ← u .len)
+      rw (← u .len)
       (record {
         places = changed-places c;
         renewal = changed-bytes c (differ-len (getD (placesIn xs) i freePlace) (heldFor s (n + length d)) (λ q. omega (arith, q, u .len, u .some l)));
@@ -93,10 +93,10 @@ module _ (i n : ℕ) (last : Bool) (d pool xs : List ℕ) (m : Lent pool d) (u :
       let v : n ≤ length (drop (72 * i) pool) = rw length-drop (omega arith) in
       rw (k, drop-put (72 * i) n d pool h) (take-put n d (drop (72 * i) pool) v)
 
-  pub close-done : last ≡ true → (s end : ℕ) → Changed i freePlace xs after → end ≡ 72 * i + (n + length d) →
-      Joins (performed (cond last Close Append) true s i d st) d (outcome.InPool (72 * i) end) xs after bytes
-  close-done l s end c q =
-      rw (l, ← u .len)
+  pub close-done : (s end : ℕ) → Changed i freePlace xs after → end ≡ 72 * i + (n + length d) →
+      Joins (performed Close true s i d st) d (outcome.InPool (72 * i) end) xs after bytes
+  close-done s end c q =
+      rw (← u .len)
       (record {
         places = changed-places c;
         renewal = changed-bytes c (differ-held (getD (placesIn xs) i freePlace) freePlace true (u .held) refl);

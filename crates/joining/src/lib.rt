@@ -28,7 +28,7 @@ pub fn join(
     ensures { λ o. ⌜ Joins (receive alias (stateIn (now (places .entry)) (now (pool .entry))) (canFrame header (now (payload .entry)))) (now (payload .entry)) o (now (places .entry)) (now (places .exit)) (now (pool .exit)) ⌝ }
 {
     let source = frame::source_of(header);
-    let i = places::look_up(places, source);
+    let i = sources::look_up(places, source);
     if i == 9 {
         return Outcome::BadState;
     }

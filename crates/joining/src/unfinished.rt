@@ -3,7 +3,7 @@ use super::Outcome;
 use frame::Role;
 use step::Step;
 ghost use mathlib.Core.Path.{_≡_};
-ghost use mathlib.Core.Bool.{true, cond};
+ghost use mathlib.Core.Bool.{true, false};
 ghost use Prim.Native.Nat.{_*_};
 ghost use Rattle.buffer.specs.Buffer.{placed};
 ghost use Rattle.step.specs.declared.Step.the-variants as does;
@@ -23,7 +23,7 @@ const BUFFER_UNAVAILABLE: u16 = 0x2020;
 fn refuse(places: &mut [u8], i: usize, code: u16) -> Outcome
     ensures { λ o. ⌜ (now (places .exit) ≡ placed (8 * i) (placeBytes freePlace) (now (places .entry))) × (o ≡ Outcome.Refuse code) ⌝ }
 {
-    places::free(places, i);
+    holding::free(places, i);
     Outcome::Refuse(code)
 }
 
@@ -32,17 +32,16 @@ fn open(pool: &mut [u8], places: &mut [u8; 64], source: u16, payload: &[u8]) -> 
     requires { ⌜ Lent (now pool) (now payload) ⌝ }
     ensures { λ o. ⌜ Joins (performed does.Open true source 8 (now (payload .entry)) (stateIn (now (places .entry)) (now (pool .entry)))) (now (payload .entry)) o (now (places .entry)) (now (places .exit)) (now (pool .exit)) ⌝ }
 {
-    let i = places::find_free(places);
+    let i = sources::find_free(places);
     if 8 <= i {
         return Outcome::Refuse(BUFFER_UNAVAILABLE);
     }
     buffer::put(pool, ROOM * i, payload);
-    places::hold(places, i, source, payload.len() as u8);
+    holding::hold(places, i, source, payload.len() as u8);
     Outcome::NoAnswer
 }
 
-// A Middle or a Last: appends to the `len` bytes in place i. A Last closes the datagram too; its bytes stay in the pool until the place is
-// used again.
+// A Middle: appends to the `len` bytes in place i.
 fn append(
     pool: &mut [u8],
     places: &mut [u8; 64],
@@ -50,20 +49,25 @@ fn append(
     source: u16,
     len: u8,
     payload: &[u8],
-    last: bool,
 ) -> Outcome
-    requires { ⌜ Lent (now pool) (now payload) × Fitting i len last (now places) (now payload) ⌝ }
-    ensures { λ o. ⌜ Joins (performed (cond last does.Close does.Append) true source i (now (payload .entry)) (stateIn (now (places .entry)) (now (pool .entry)))) (now (payload .entry)) o (now (places .entry)) (now (places .exit)) (now (pool .exit)) ⌝ }
+    requires { ⌜ Lent (now pool) (now payload) × Fitting i len false (now places) (now payload) ⌝ }
+    ensures { λ o. ⌜ Joins (performed does.Append true source i (now (payload .entry)) (stateIn (now (places .entry)) (now (pool .entry)))) (now (payload .entry)) o (now (places .entry)) (now (places .exit)) (now (pool .exit)) ⌝ }
+{
+    buffer::put(pool, ROOM * i + len as usize, payload);
+    holding::hold(places, i, source, len + payload.len() as u8);
+    Outcome::NoAnswer
+}
+
+// A Last: appends to the `len` bytes in place i, and closes the datagram; its bytes stay in the pool until the place is used again.
+fn close(pool: &mut [u8], places: &mut [u8; 64], i: usize, len: u8, payload: &[u8]) -> Outcome
+    requires { ⌜ Lent (now pool) (now payload) × Fitting i len true (now places) (now payload) ⌝ }
+    ensures { λ o. ⌜ Joins (performed does.Close true 0 i (now (payload .entry)) (stateIn (now (places .entry)) (now (pool .entry)))) (now (payload .entry)) o (now (places .entry)) (now (places .exit)) (now (pool .exit)) ⌝ }
 {
     let from = ROOM * i;
     let end = from + len as usize;
     buffer::put(pool, end, payload);
-    if last {
-        places::free(places, i);
-        return Outcome::InPool(from, end + payload.len());
-    }
-    places::hold(places, i, source, len + payload.len() as u8);
-    Outcome::NoAnswer
+    holding::free(places, i);
+    Outcome::InPool(from, end + payload.len())
 }
 
 // A frame of at most 8 bytes joined to a state that B7 lets pass. Where its source has nothing unfinished, i is 8.
@@ -90,10 +94,10 @@ pub fn join_sound(
             return open(pool, places, source, payload);
         }
         Step::Append => {
-            return append(pool, places, i, source, len, payload, false);
+            return append(pool, places, i, source, len, payload);
         }
         Step::Close => {
-            return append(pool, places, i, source, len, payload, true);
+            return close(pool, places, i, len, payload);
         }
         Step::Refuse(code) => {
             return refuse(places, i, code);

@@ -21,7 +21,7 @@ use Rattle.joining.specs.Joins.{eventOf, InsidePool, Joins}
 use Rattle.joining.specs.declared.Outcome.{Outcome}
 use Rattle.joining.specs.declared.Outcome.the-variants as outcome
 use Rattle.access.specs.Access.{Changes}
-use Rattle.handler.specs.Performing.{Fixed, Contents, handle, Performs}
+use Rattle.handler.specs.Handling.{Fixed, Contents, handle, Performs}
 use Rattle.handler.proofs.Laws.{whole, handle-bounds}
 use Rattle.datagram.specs.Datagram.{datagramHouse}
 use Rattle.datagram.proofs.Laws.{answer-small}

@@ -14,7 +14,7 @@ use Rattle.reception.specs.Order.{FrameResult, result, houseRefusal, ignoredFra
 use Rattle.reception.specs.PlaceBytes.{placesIn, renewed}
 use Rattle.reply.specs.Answers.{Result, answerOf, bufferOf, SmallAnswer}
 use Rattle.access.specs.Access.{Changes}
-use Rattle.handler.specs.Performing.{Fixed, Contents, Outcome, handle, Short}
+use Rattle.handler.specs.Handling.{Fixed, Contents, Outcome, handle, Short}
 use Rattle.datagram.specs.Datagram.{datagramHouse}
 use Rattle.node.specs.declared.FrameAnswer.{FrameAnswer}
 use Rattle.node.specs.declared.FrameAnswer.the-variants as answer

@@ -7,7 +7,7 @@ mod frames;
 ghost use Rattle.board.specs.Table.{spacesIn};
 ghost use Rattle.frame.specs.Frame.{canFrame};
 ghost use Rattle.reception.specs.PlaceBytes.{stateIn};
-ghost use Rattle.handler.specs.Performing.{fixed, contents};
+ghost use Rattle.handler.specs.Handling.{fixed, contents};
 ghost use Rattle.node.specs.Frames.{frameCall, Answers, Keeps, SmallFrame, FrameChanges, NodeOrder};
 
 // What comes of a frame: a house number; an ignored frame; a frame that is joined and not answered; a transport refusal, sent as
@@ -40,7 +40,7 @@ pub fn handle_frame(
     ensures changes { λ r. ⌜ FrameChanges r (now (memory .entry)) (now (memory .exit)) ⌝ }
     ensures order { λ _. ⌜ NodeOrder (fixed alias «write_lengths» (spacesIn (now (spaces .entry))) (now (flash .entry))) ⌝ }
 {
-    let house = datagram::check(alias, write_lengths, spaces, flash, &memory[..], &out[..]);
+    let house = description::check_call(alias, spaces, flash.len(), memory.len(), out.len());
     if !house::is_good(house) {
         return FrameAnswer::Refused(house);
     }

@@ -16,8 +16,8 @@ use Rattle.buffer.specs.LittleEndian.{leastFirst}
 use Rattle.buffer.proofs.Choice.{by-test}
 use Rattle.buffer.proofs.Laws.{placed-fits, put-length, put-behind, put-nil}
 use Rattle.frame.specs.declared.Frame.{Frame}
-use Rattle.frame.specs.Layout.{frameBytes, framesBytes}
-use Rattle.frame.proofs.LayoutLaws.{eight-are}
+use Rattle.layout.specs.Layout.{frameBytes, framesBytes}
+use Rattle.layout.proofs.LayoutLaws.{eight-are}
 use Rattle.gridconnect.specs.Line.{frameText, endOf, Printed, lineOf}
 use Rattle.gridconnect.proofs.LineLaws.{no-line, line-text, line-length}
 use Rattle.printing.specs.Printing.{frameAt, framesFrom, framesText, whenRoom}

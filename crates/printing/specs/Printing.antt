@@ -9,7 +9,7 @@ use Rattle.frame.specs.declared.Frame.{Frame}
 use Rattle.gridconnect.specs.Line.{frameText}
 
 -- The frame in 16 bytes from an index on: its header and the number of its data bytes, each least significant byte first, and its eight bytes
--- (frame: Layout).
+-- (layout: Layout).
 unfoldable pub frameAt : List ℕ → ℕ → Frame
 frameAt bytes at = record {
   header = numberOf (getD bytes (at + 3) 0) (getD bytes (at + 2) 0) (getD bytes (at + 1) 0) (getD bytes at 0);

@@ -2,13 +2,39 @@
 use frame::Frame;
 ghost use mathlib.Core.Path.{_≡_};
 ghost use Prim.Native.Nat.{_+_, _*_, _≤_, _<_, min};
-ghost use lib.ListN.{length};
+ghost use lib.ListN.{length, getD};
 ghost use Rattle.buffer.specs.Buffer.{putAt};
+ghost use Rattle.buffer.specs.BigEndian.{numberOf};
 ghost use Rattle.gridconnect.specs.Line.{Printed};
 ghost use Rattle.printing.specs.Printing.{frameAt, framesFrom, framesText, whenRoom};
 
 // The longest that the frames of one answer are printed as: a transport reply and nine frames, lines of at most 29 bytes.
 pub const LONGEST: usize = 290;
+
+// The number in four bytes from an index on, least significant first.
+fn number_at(frames: &[u8; 160], at: usize) -> u32
+    requires { ⌜ at + 3 < 160 ⌝ }
+    ensures { λ r. ⌜ r ≡ numberOf (getD (now (frames .entry)) (at + 3) 0) (getD (now (frames .entry)) (at + 2) 0) (getD (now (frames .entry)) (at + 1) 0) (getD (now (frames .entry)) at 0) ⌝ }
+{
+    buffer::number(frames[at + 3], frames[at + 2], frames[at + 1], frames[at])
+}
+
+// The data bytes of the frame that starts at an index.
+fn data_at(frames: &[u8; 160], at: usize) -> [u8; 8]
+    requires { ⌜ at + 15 < 160 ⌝ }
+    ensures { λ r. ⌜ r ≡ frameAt (now (frames .entry)) at .bytes ⌝ }
+{
+    [
+        frames[at + 8],
+        frames[at + 9],
+        frames[at + 10],
+        frames[at + 11],
+        frames[at + 12],
+        frames[at + 13],
+        frames[at + 14],
+        frames[at + 15],
+    ]
+}
 
 // Frame i of the lent bytes.
 fn frame_at(frames: &[u8; 160], i: usize) -> Frame
@@ -17,23 +43,9 @@ fn frame_at(frames: &[u8; 160], i: usize) -> Frame
 {
     let at = 16 * i;
     Frame {
-        header: buffer::number(frames[at + 3], frames[at + 2], frames[at + 1], frames[at]),
-        len: buffer::number(
-            frames[at + 7],
-            frames[at + 6],
-            frames[at + 5],
-            frames[at + 4],
-        ),
-        bytes: [
-            frames[at + 8],
-            frames[at + 9],
-            frames[at + 10],
-            frames[at + 11],
-            frames[at + 12],
-            frames[at + 13],
-            frames[at + 14],
-            frames[at + 15],
-        ],
+        header: number_at(frames, at),
+        len: number_at(frames, at + 4),
+        bytes: data_at(frames, at),
     }
 }
 
@@ -52,19 +64,27 @@ fn print_some(frames: &[u8; 160], n: usize, out: &mut [u8], at: usize) -> usize
     end
 }
 
+// As many of `count` frames as the lent bytes hold.
+fn at_most_ten(count: usize) -> usize
+    ensures { λ r. ⌜ r ≡ min count 10 ⌝ }
+{
+    if 10 < count {
+        return 10;
+    }
+    count
+}
+
 // Prints the first `count` of ten frames from index `at` of `out` on, and returns the index past them. Where `out` has no room for the
 // longest lines of ten, nothing is printed.
 pub fn print_frames(frames: &[u8; 160], count: usize, out: &mut [u8], at: usize) -> usize
     ensures { λ r. ⌜ Printed at (whenRoom at (now (out .entry)) (framesText (framesFrom (now (frames .entry)) 0 (min count 10)))) (now (out .entry)) r (now (out .exit)) ⌝ }
 {
-    if out.len() < LONGEST {
+    let size = out.len();
+    if size < LONGEST {
         return at;
     }
-    if out.len() - LONGEST < at {
+    if size - LONGEST < at {
         return at;
     }
-    if 10 < count {
-        return print_some(frames, 10, out, at);
-    }
-    print_some(frames, count, out, at)
+    print_some(frames, at_most_ten(count), out, at)
 }

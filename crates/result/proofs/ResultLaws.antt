@@ -5,7 +5,8 @@ use mathlib.Core.Path.{_≡_, refl, _∙_}
 use mathlib.Core.List.{List}
 use native.Mathlib.Omega.{arith}
 use lib.ListN.{length, take, drop}
-use Rattle.access.specs.Access.{OnlyWithin, Changes}
+use Rattle.storing.specs.Storing.{OnlyWithin}
+use Rattle.access.specs.Access.{Changes}
 use Rattle.reply.specs.Answers.{SmallAnswer}
 use Rattle.reply.specs.declared.Answer.{Answer}
 use Rattle.reply.specs.declared.Answer.the-variants as answer

@@ -14,17 +14,17 @@ use Rattle.buffer.proofs.Choice.{cond-elim, and-left}
 use Rattle.house.specs.declared.HouseNumber.{HouseNumber}
 use Rattle.frame.specs.declared.Frame.{Frame}
 use Rattle.frame.specs.Frame.{sourceOf}
-use Rattle.frame.specs.Layout.{framesBytes}
+use Rattle.layout.specs.Layout.{framesBytes}
 use Rattle.reception.specs.Reception.{State}
 use Rattle.reception.specs.Order as order
 use Rattle.reception.specs.Order.{houseRefusal, ignoredFrame, nothing, transportRefusal, handled, runCalls}
-use Rattle.cutting.specs.Cutting.{aliases, framesOf, cutFrames}
-use Rattle.cutting.specs.Transport.{receivedOk, rejectedWith, transportReply}
-use Rattle.cutting.proofs.CutLaws.{frames-few}
+use Rattle.fragments.specs.Cutting.{aliases, framesOf, cutFrames}
+use Rattle.transport.specs.Transport.{receivedOk, rejectedWith, transportReply}
+use Rattle.fragments.proofs.CutLaws.{frames-few}
 use Rattle.reply.specs.Answers.{Result, datagramRejected, written, updateCompleted, receivedOkReply}
 use Rattle.reply.specs.declared.Answer.{Answer}
 use Rattle.reply.specs.declared.Answer.the-variants.{Rejected, Written, UpdateComplete, Replied}
-use Rattle.handler.specs.Performing.{Fixed, Contents}
+use Rattle.handler.specs.Handling.{Fixed, Contents}
 use Rattle.node.specs.Frames.{frameCall, Call, frameAnswerOf, frameBufferOf}
 use Rattle.node.specs.declared.FrameAnswer.{FrameAnswer}
 use Rattle.node.proofs.FrameLaws.{node-order}

@@ -10,16 +10,16 @@ use Rattle.house.specs.declared.HouseNumber.{HouseNumber}
 use Rattle.house.specs.declared.HouseNumber.the-variants.{Good, B7}
 use Rattle.frame.specs.declared.Frame.{Frame}
 use Rattle.frame.specs.Frame.{CanFrame, sourceOf}
-use Rattle.frame.specs.Layout.{framesBytes}
+use Rattle.layout.specs.Layout.{framesBytes}
 use Rattle.reception.specs.Reception.{State}
 use Rattle.reception.specs.Order as order
 use Rattle.reception.specs.Order.{FrameResult, houseRefusal, ignoredFrame, nothing, transportRefusal, handled, eventsOf, answersTo, Fresh, AtMostEight, Each}
-use Rattle.cutting.specs.Cutting.{cutFrames}
-use Rattle.cutting.specs.Transport.{receivedOk, rejectedWith}
+use Rattle.fragments.specs.Cutting.{cutFrames}
+use Rattle.transport.specs.Transport.{receivedOk, rejectedWith}
 use Rattle.reply.specs.Answers.{Result, datagramRejected, written, updateCompleted, receivedOkReply, Transport, okFlags, rejectedCode, transportOf}
 use Rattle.reply.specs.declared.Answer.{Answer}
 use Rattle.reply.specs.declared.Answer.the-variants.{Rejected, Written, UpdateComplete, Replied}
-use Rattle.handler.specs.Performing.{Fixed, Contents}
+use Rattle.handler.specs.Handling.{Fixed, Contents}
 use Rattle.node.specs.Frames.{handler, frameCall, Call, frameAnswerOf}
 use Rattle.node.specs.declared.FrameAnswer.{FrameAnswer}
 use Rattle.node.specs.declared.FrameAnswer.the-variants.{Refused, Ignored, Nothing, TransportRefusal, Answered}

@@ -14,12 +14,13 @@ use Rattle.buffer.specs.Buffer.{over, putAt}
 use Rattle.buffer.proofs.Choice.{cond-elim, by-test}
 use Rattle.buffer.proofs.Laws.{put-nil, put-length, take-put, drop-behind}
 use Rattle.reception.specs.Reception.{State}
-use Rattle.handler.specs.Performing.{Fixed, Contents}
-use Rattle.gridconnect.specs.Line.{parseOf}
-use Rattle.gridconnect.specs.declared.Parsed.{Parsed}
-use Rattle.lines.specs.Input.{untilNewline, nextOf, readFrom, carryAfter, carryOf, readChunks, carryAfterChunks, lastOf, given, linesOf, line, noLine, begunOf, carryWith, Step, AnyCuts}
-use Rattle.lines.specs.declared.Carry.{Carry}
-use Rattle.lines.specs.declared.Next.{Next}
+use Rattle.handler.specs.Handling.{Fixed, Contents}
+use Rattle.parsing.specs.Parsing.{parseOf}
+use Rattle.parsing.specs.declared.Parsed.{Parsed}
+use Rattle.newline.specs.Newline.{untilNewline}
+use Rattle.input.specs.Input.{nextOf, readFrom, carryAfter, carryOf, readChunks, carryAfterChunks, lastOf, given, linesOf, line, noLine, begunOf, carryWith, Step, AnyCuts}
+use Rattle.input.specs.declared.Carry.{Carry}
+use Rattle.input.specs.declared.Next.{Next}
 use Rattle.turn.specs.Turn.{Turn, turn, answerLine, answerWithRoom, Prints}
 use Rattle.session.specs.Session.{behind, answerLines, session, sessionInChunks, AnyChunks, Answered, atEnd}
 use Rattle.session.specs.declared.Progress.{Progress}

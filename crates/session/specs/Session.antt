@@ -6,12 +6,12 @@ use mathlib.Core.List.{List, [], _∷_, _++_, map, flatten}
 use lib.Dec.{leb}
 use lib.ListN.{length, take, drop}
 use Rattle.reception.specs.Reception.{State}
-use Rattle.handler.specs.Performing.{Fixed, Contents}
-use Rattle.gridconnect.specs.Line.{parseOf}
-use Rattle.gridconnect.specs.declared.Parsed.{Parsed}
+use Rattle.handler.specs.Handling.{Fixed, Contents}
+use Rattle.parsing.specs.Parsing.{parseOf}
+use Rattle.parsing.specs.declared.Parsed.{Parsed}
 use Rattle.turn.specs.Turn.{Turn, turn, answerLine}
-use Rattle.lines.specs.Input.{linesOf, readFrom, carryAfter, carryOf, lastOf, given}
-use Rattle.lines.specs.declared.Carry.{Carry}
+use Rattle.input.specs.Input.{linesOf, readFrom, carryAfter, carryOf, lastOf, given}
+use Rattle.input.specs.declared.Carry.{Carry}
 use Rattle.session.specs.declared.Progress.{Progress}
 
 -- ---- lines

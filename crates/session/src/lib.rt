@@ -1,6 +1,6 @@
 // Text to text: the lines of an input that comes in chunks, answered by the board.
-use lines::Carry;
-use lines::Next;
+use input::Carry;
+use input::Next;
 use printing::LONGEST;
 ghost use mathlib.Core.Path.{_≡_};
 ghost use mathlib.Core.List.{[]};
@@ -8,8 +8,8 @@ ghost use Prim.Native.Nat.{_+_, _≤_};
 ghost use lib.ListN.{length};
 ghost use Rattle.board.specs.Table.{spacesIn};
 ghost use Rattle.reception.specs.PlaceBytes.{stateIn};
-ghost use Rattle.handler.specs.Performing.{fixed, contents};
-ghost use Rattle.lines.specs.Input.{given};
+ghost use Rattle.handler.specs.Handling.{fixed, contents};
+ghost use Rattle.input.specs.Input.{given};
 ghost use Rattle.turn.specs.Turn.{Prints};
 ghost use Rattle.session.specs.Session.{answerLines, atEnd, Answered, AnyChunks};
 

@@ -17,12 +17,12 @@ use Rattle.buffer.proofs.Laws.{placed-fits}
 use Rattle.house.specs.declared.HouseNumber.{HouseNumber}
 use Rattle.frame.specs.declared.Frame.{Frame}
 use Rattle.frame.specs.Frame.{headerOf, frameOf}
-use Rattle.frame.specs.Layout.{framesBytes}
+use Rattle.layout.specs.Layout.{framesBytes}
 use Rattle.reception.specs.Order as order
 use Rattle.reception.specs.Order.{houseRefusal, ignoredFrame, nothing, transportRefusal, handled}
-use Rattle.cutting.specs.Cutting.{aliases, first, single, restFrames, framesOf, cutFrames}
-use Rattle.cutting.specs.Transport.{transportReply, receivedOk, rejectedWith}
-use Rattle.cutting.proofs.CutLaws.{by-eights, rest-last, rest-more}
+use Rattle.fragments.specs.Cutting.{aliases, first, single, restFrames, framesOf, cutFrames}
+use Rattle.transport.specs.Transport.{transportReply, receivedOk, rejectedWith}
+use Rattle.fragments.proofs.CutLaws.{by-eights, rest-last, rest-more}
 use Rattle.reply.specs.Answers.{Result, datagramRejected, written, updateCompleted, receivedOkReply}
 use Rattle.sending.specs.Sending.{framesToSend, sentFor}
 use Rattle.gridconnect.specs.Line.{endOf, Printed}

@@ -16,12 +16,12 @@ use Rattle.reception.specs.Order.{FrameResult}
 use Rattle.reception.specs.PlaceBytes.{stateIn}
 use Rattle.house.specs.declared.HouseNumber.{HouseNumber}
 use Rattle.reply.specs.Answers.{Result}
-use Rattle.handler.specs.Performing.{Fixed, Contents, contents}
+use Rattle.handler.specs.Handling.{Fixed, Contents, contents}
 use Rattle.node.specs.Frames.{frameCall, Answers, Keeps}
 use Rattle.node.specs.declared.FrameAnswer.{FrameAnswer}
 use Rattle.sending.specs.Sending.{sentFor, Made}
 use Rattle.gridconnect.specs.Line.{unknownText, Printed}
-use Rattle.gridconnect.specs.declared.Parsed.{Parsed}
+use Rattle.parsing.specs.declared.Parsed.{Parsed}
 use Rattle.printing.specs.Printing.{framesFrom, framesText, whenRoom}
 use Rattle.turn.specs.Turn.{turn, answerLine, answerWithRoom, Prints}
 use Rattle.turn.proofs.FullLaws.{sent-full, printed-fits, frames-printed}

@@ -9,12 +9,12 @@ use lib.ListN.{length, replicate}
 use Rattle.buffer.specs.Buffer.{putAt}
 use Rattle.frame.specs.Frame.{sourceOf}
 use Rattle.reception.specs.Reception.{State}
-use Rattle.cutting.specs.Cutting.{carried}
-use Rattle.handler.specs.Performing.{Fixed, Contents}
+use Rattle.fragments.specs.Cutting.{carried}
+use Rattle.handler.specs.Handling.{Fixed, Contents}
 use Rattle.node.specs.Frames.{frameCall}
 use Rattle.sending.specs.Sending.{sentFor}
 use Rattle.gridconnect.specs.Line.{unknownText}
-use Rattle.gridconnect.specs.declared.Parsed.{Parsed}
+use Rattle.parsing.specs.declared.Parsed.{Parsed}
 use Rattle.printing.specs.Printing.{framesText}
 
 -- The text that is printed, and what is left of the reception state, memory and lock.

@@ -1,9 +1,9 @@
 // A line answered: its frame is handled, and what the board sends is printed.
-use gridconnect::Parsed;
+use parsing::Parsed;
 use printing::LONGEST;
 ghost use Rattle.board.specs.Table.{spacesIn};
 ghost use Rattle.reception.specs.PlaceBytes.{stateIn};
-ghost use Rattle.handler.specs.Performing.{fixed, contents};
+ghost use Rattle.handler.specs.Handling.{fixed, contents};
 ghost use Rattle.turn.specs.Turn.{answerWithRoom, Prints};
 
 // A line that was read: its frame is handled and what the board sends is printed into `out` from index `at` on, or `?`. Returns the index past the
@@ -36,7 +36,7 @@ pub fn answer_line(
     let bytes = frame.bytes;
     let mut reply = [0u8; 72];
     let mut frames = [0u8; 160];
-    let sent = sending::answer_frame(
+    let sent = bus::answer_frame(
         alias,
         write_lengths,
         spaces,

@@ -10,13 +10,8 @@ use reply::Answer;
 // The reply buffer is filled with this before each call, so that a byte past the reply that changed is seen.
 const FILL: u8 = 0xEE;
 
-// A line that is being written: its bytes are lent, and `at` says how many there are.
-fn push(line: &mut [u8], at: usize, byte: u8) -> usize {
-    if at < line.len() {
-        line[at] = byte;
-        return at + 1;
-    }
-    at
+fn print(text: &[u8]) {
+    io::write_all(STDOUT_FILENO, text);
 }
 
 fn digit(value: u8) -> u8 {
@@ -27,55 +22,36 @@ fn digit(value: u8) -> u8 {
     55 + low
 }
 
-fn push_hex(line: &mut [u8], at: usize, byte: u8) -> usize {
-    let next = push(line, at, digit(byte / 16));
-    push(line, next, digit(byte % 16))
+fn print_byte(byte: u8) {
+    let digits = [digit(byte / 16), digit(byte % 16)];
+    print(&digits);
 }
 
-fn push_code(line: &mut [u8], at: usize, code: u16) -> usize {
-    let next = push_hex(line, at, (code / 256) as u8);
-    push_hex(line, next, (code % 256) as u8)
-}
-
-fn push_text(line: &mut [u8], at: usize, text: &[u8]) -> usize {
-    let mut end = at;
-    let mut i = 0;
-    while i < text.len() {
-        end = push(line, end, text[i]);
-        i += 1;
-    }
-    end
-}
-
-fn push_bytes(line: &mut [u8], at: usize, bytes: &[u8]) -> usize {
-    let mut end = at;
+fn print_bytes(bytes: &[u8]) {
     let mut i = 0;
     while i < bytes.len() {
-        end = push_hex(line, end, bytes[i]);
+        print_byte(bytes[i]);
         i += 1;
     }
-    end
 }
 
 // Each byte of memory that is not zero any more, with its index.
-fn push_changes(line: &mut [u8], at: usize, memory: &[u8]) -> usize {
-    let mut end = at;
+fn print_changes(memory: &[u8]) {
     let mut i = 0;
     while i < memory.len() {
-        end = push_change(line, end, i, memory[i]);
+        print_change(i, memory[i]);
         i += 1;
     }
-    end
 }
 
-fn push_change(line: &mut [u8], at: usize, index: usize, byte: u8) -> usize {
+fn print_change(index: usize, byte: u8) {
     if byte == 0 {
-        return at;
+        return;
     }
-    let named = push_text(line, at, b", memory ");
-    let indexed = push_hex(line, named, (index % 256) as u8);
-    let equals = push(line, indexed, b'=');
-    push_hex(line, equals, byte)
+    print(b", memory ");
+    print_byte((index % 256) as u8);
+    print(b"=");
+    print_byte(byte);
 }
 
 // Whether the buffer is as it was from index `from` on.
@@ -90,86 +66,101 @@ fn is_untouched(reply: &[u8], from: usize) -> bool {
     true
 }
 
-fn push_reply(line: &mut [u8], at: usize, reply: &[u8], length: usize) -> usize {
+fn print_untouched(reply: &[u8], from: usize) {
+    if !is_untouched(reply, from) {
+        print(b" BUFFER CHANGED PAST THE REPLY");
+    }
+}
+
+fn print_rejected(code: u16) {
+    print(b"Rejected ");
+    print_byte((code / 256) as u8);
+    print_byte((code % 256) as u8);
+}
+
+fn print_reply(reply: &[u8], length: usize) {
     if reply.len() < length {
-        return push_text(line, at, b" REPLY OUT OF THE BUFFER");
+        print(b" REPLY OUT OF THE BUFFER");
+        return;
     }
-    let named = push_text(line, at, b"Received OK 80, reply ");
-    push_bytes(line, named, &reply[..length])
+    print(b"Received OK 80, reply ");
+    print_bytes(buffer::part(reply, 0, length));
 }
 
-fn push_untouched(line: &mut [u8], at: usize, reply: &[u8], from: usize) -> usize {
-    if is_untouched(reply, from) {
-        return at;
-    }
-    push_text(line, at, b" BUFFER CHANGED PAST THE REPLY")
-}
-
-fn push_answer(line: &mut [u8], at: usize, answer: Answer, reply: &[u8]) -> usize {
+// The answer; what comes back is how many bytes of the buffer the reply takes.
+fn print_answer(answer: Answer, reply: &[u8]) -> usize {
     match answer {
         Answer::Rejected(code) => {
-            let named = push_text(line, at, b"Rejected ");
-            let end = push_code(line, named, code);
-            return push_untouched(line, end, reply, 0);
+            print_rejected(code);
+            return 0;
         }
         Answer::Written(_, _) => {
-            let end = push_text(line, at, b"Received OK 00");
-            return push_untouched(line, end, reply, 0);
+            print(b"Received OK 00");
+            return 0;
         }
         Answer::UpdateComplete => {
-            let end = push_text(line, at, b"Received OK 00");
-            return push_untouched(line, end, reply, 0);
+            print(b"Received OK 00");
+            return 0;
         }
         Answer::Replied(length) => {
-            let end = push_reply(line, at, reply, length);
-            return push_untouched(line, end, reply, length);
+            print_reply(reply, length);
+            return length;
         }
     }
 }
 
-fn push_handled(line: &mut [u8], at: usize, handled: Handled, reply: &[u8]) -> usize {
+fn print_handled(handled: Handled, reply: &[u8]) {
     match handled {
         Handled::Refused(_) => {
-            return push_text(line, at, b"refused by a house number");
+            print(b"refused by a house number");
         }
         Handled::Answered(answer) => {
-            return push_answer(line, at, answer, reply);
+            let length = print_answer(answer, reply);
+            print_untouched(reply, length);
         }
     }
 }
 
-fn push_lock(line: &mut [u8], at: usize, lock: [u8; 6]) -> usize {
-    let named = push_text(line, at, b", lock ");
-    push_bytes(line, named, &lock)
+// The end of a line.
+fn print_lock(lock: &[u8; 6]) {
+    print(b", lock ");
+    print_bytes(lock);
+    print(b"\n");
 }
 
-// The line for a datagram on a board that describes the first `count` of the demonstration board's spaces, and whose lock memory is
-// `held` before.
-fn run_on(datagram: &[u8], count: u8, held: [u8; 6], line: &mut [u8]) {
+// A datagram handled by a board that describes the first `count` of the demonstration board's spaces.
+fn handle(
+    datagram: &[u8],
+    count: u8,
+    memory: &mut [u8],
+    lock: &mut [u8; 6],
+    reply: &mut [u8],
+) -> Handled {
     let table = demonstration::table_bytes();
     let flash = demonstration::flash_bytes();
-    let mut memory = demonstration::memory_bytes();
-    let mut lock = held;
-    let mut reply = [FILL; 80];
-    let handled = datagram::handle_datagram(
+    datagram::handle_datagram(
         demonstration::alias(),
         demonstration::write_lengths(),
         buffer::part(&table, 0, count as usize * 16),
         &flash,
-        &mut memory,
-        &mut lock,
+        memory,
+        lock,
         datagram,
-        &mut reply,
-    );
-    let sent = push_bytes(line, 0, datagram);
-    let named = push_text(line, sent, b": ");
-    let answered = push_handled(line, named, handled, &reply);
-    let changed = push_changes(line, answered, &memory);
-    let locked = push_lock(line, changed, lock);
-    let end = push(line, locked, b'\n');
-    if end <= line.len() {
-        io::write_all(STDOUT_FILENO, &line[..end]);
-    }
+        reply,
+    )
+}
+
+// The line for a datagram on such a board whose lock memory is `held` before.
+fn run_on(datagram: &[u8], count: u8, held: [u8; 6]) {
+    let mut memory = demonstration::memory_bytes();
+    let mut lock = held;
+    let mut reply = [FILL; 80];
+    let handled = handle(datagram, count, &mut memory, &mut lock, &mut reply);
+    print_bytes(datagram);
+    print(b": ");
+    print_handled(handled, &reply);
+    print_changes(&memory);
+    print_lock(&lock);
 }
 
 // A line of the input that is being read, and the board that its datagram is for.
@@ -259,27 +250,27 @@ fn lock_before(held: bool) -> [u8; 6] {
 }
 
 // The datagram of a line, run.
-fn run_bytes(bytes: [u8; 80], len: usize, count: u8, held: bool, line: &mut [u8]) {
-    run_on(buffer::part(&bytes, 0, len), count, lock_before(held), line);
+fn run_bytes(bytes: [u8; 80], len: usize, count: u8, held: bool) {
+    run_on(buffer::part(&bytes, 0, len), count, lock_before(held));
 }
 
 // The end of a line: its datagram is run, unless the line is a setting.
-fn end_row(row: Row, line: &mut [u8]) -> Row {
+fn end_row(row: Row) -> Row {
     if row.setting {
         return next_row(row);
     }
     let bytes = row.bytes;
-    run_bytes(bytes, row.len, row.count, row.held, line);
+    run_bytes(bytes, row.len, row.count, row.held);
     next_row(row)
 }
 
 fn echo(byte: u8) {
     let bytes = [byte];
-    io::write_all(STDOUT_FILENO, &bytes);
+    print(&bytes);
 }
 
 // One byte of the input.
-fn read_byte(row: Row, byte: u8, line: &mut [u8]) -> Row {
+fn read_byte(row: Row, byte: u8) -> Row {
     if row.title {
         echo(byte);
         if byte == b'\n' {
@@ -288,7 +279,7 @@ fn read_byte(row: Row, byte: u8, line: &mut [u8]) -> Row {
         return row;
     }
     if byte == b'\n' {
-        return end_row(row, line);
+        return end_row(row);
     }
     if row.setting {
         return with_setting(row, byte);
@@ -311,11 +302,11 @@ fn start_or_digit(row: Row, byte: u8) -> Row {
     with_digit(row, byte)
 }
 
-fn read_all(input: &[u8], line: &mut [u8]) {
+fn read_all(input: &[u8]) {
     let mut row = first_row();
     let mut i = 0;
     while i < input.len() {
-        row = read_byte(row, input[i], line);
+        row = read_byte(row, input[i]);
         i += 1;
     }
 }
@@ -323,8 +314,7 @@ fn read_all(input: &[u8], line: &mut [u8]) {
 fn main() {
     let mut input = io::large_buffer();
     let got = io::read_full(STDIN_FILENO, &mut input);
-    let mut line = [0u8; 1024];
     if got <= 65536 {
-        read_all(&input[..got], &mut line);
+        read_all(&input[..got]);
     }
 }

@@ -1,7 +1,7 @@
 -- `bujorelm_next_line` meets its contract.
 -- Assumes nothing.
 use mathlib.Core.Path.{_∙_}
-use Rattle.lines.proofs.StepLaws.{line-again}
+use Rattle.input.proofs.StepLaws.{line-again}
 use borrow.Author.Needs.{needs}
 use Rattle.driver.proofs.bujorelm_next_line.Statement.{statement}
 use Rattle.driver.proofs.bujorelm_next_line.Tie as tie

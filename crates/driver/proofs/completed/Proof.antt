@@ -5,7 +5,7 @@ use Rattle.driver.proofs.completed.Statement.{statement}
 use Rattle.driver.proofs.completed.Tie as tie
 
 returns : tie.Need-returns
-returns c = rw (c .start .ensures)
+returns c = rw (c .start .ensures .0)
 
 pub completed-spec : {M : Type 1} → statement M
 completed-spec =

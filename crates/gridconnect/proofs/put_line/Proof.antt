@@ -1,4 +1,4 @@
--- `put_line` meets its contract: the five pieces, put one behind the other, are the frame's line and a newline.
+-- `put_line` meets its contract: the three pieces, put one behind the other, are the frame's line and a newline.
 -- Assumes nothing.
 use Prim.Native.Nat.{ℕ, _+_, _*_, _≤_}
 use mathlib.Core.Path.{_≡_, sym, ap, _∙_}
@@ -17,28 +17,22 @@ use Rattle.gridconnect.proofs.put_line.Statement.{statement}
 use Rattle.gridconnect.proofs.put_line.Tie as tie
 
 -- the pieces in their order
-composed : (header : ℕ) (payload : List ℕ) (n at : ℕ) (buffer o₁ o₂ o₃ o₄ o₅ : List ℕ) → length payload ≡ n → at + (13 + n * 2) ≤ length buffer
-    → o₁ ≡ placed at (58 ∷ 88 ∷ []) buffer → o₂ ≡ placed (at + 2) (hexDigits 8 header) o₁ → o₃ ≡ placed (at + 10) (78 ∷ []) o₂
-    → o₄ ≡ placed (at + 11) (digitsOf payload) o₃ → o₅ ≡ placed (at + (11 + n + n)) (59 ∷ 10 ∷ []) o₄
-    → o₅ ≡ placed at (lineOf header payload ++ 10 ∷ []) buffer
+composed : (header : ℕ) (payload : List ℕ) (n at : ℕ) (buffer : List ℕ) {o₁ o₂ o₃ : List ℕ} → length payload ≡ n → at + (13 + n * 2) ≤ length buffer
+    → o₁ ≡ placed at (58 ∷ 88 ∷ (hexDigits 8 header ++ 78 ∷ [])) buffer → o₂ ≡ placed (at + 11) (digitsOf payload) o₁
+    → o₃ ≡ placed (at + (11 + n + n)) (59 ∷ 10 ∷ []) o₂ → o₃ ≡ placed at (lineOf header payload ++ 10 ∷ []) buffer
 unfolding lineOf
-composed header payload n at buffer o₁ o₂ o₃ o₄ o₅ size fits e₁ e₂ e₃ e₄ e₅ =
-    let h : List ℕ = hexDigits 8 header in
+composed header payload n at buffer {o₁} {o₂} size fits e₁ e₂ e₃ =
+    let h : List ℕ = 58 ∷ 88 ∷ hexDigits 8 header in
     let d : List ℕ = digitsOf payload in
-    let lh : length h ≡ 8 = length-hex 8 header in
+    let xs : List ℕ = h ++ 78 ∷ [] in
+    let lx : length xs ≡ 11 = length-append h (78 ∷ []) ∙ omega (arith, length-hex 8 header) in
     let ld : length d ≡ n * 2 = length-digits payload ∙ ap (λ (k : ℕ). k * 2) size in
-    let xs₂ : List ℕ = 58 ∷ 88 ∷ h in
-    let xs₃ : List ℕ = xs₂ ++ 78 ∷ [] in
-    let xs₄ : List ℕ = xs₃ ++ d in
-    let l₃ : length xs₃ ≡ 11 = length-append xs₂ (78 ∷ []) ∙ omega arith in
-    let l₄ : length xs₄ ≡ 11 + n * 2 = length-append xs₃ d ∙ omega arith in
-    let q₁ : o₁ ≡ putAt at (58 ∷ 88 ∷ []) buffer = e₁ ∙ placed-fits at (58 ∷ 88 ∷ []) buffer (omega arith) in
-    let q₂ : o₂ ≡ putAt at xs₂ buffer = e₂ ∙ placed-behind at (at + 2) (58 ∷ 88 ∷ []) h buffer q₁ (omega arith) (omega arith) in
-    let q₃ : o₃ ≡ putAt at xs₃ buffer = e₃ ∙ placed-behind at (at + 10) xs₂ (78 ∷ []) buffer q₂ (omega arith) (omega arith) in
-    let q₄ : o₄ ≡ putAt at xs₄ buffer = e₄ ∙ placed-behind at (at + 11) xs₃ d buffer q₃ (omega arith) (omega arith) in
-    let r : xs₄ ++ 59 ∷ 10 ∷ [] ≡ lineOf header payload ++ 10 ∷ [] = simp append-assoc in
-    let l₅ : length (lineOf header payload ++ 10 ∷ []) ≡ 13 + n * 2 = length-append (lineOf header payload) (10 ∷ []) ∙ omega (arith, line-length header payload) in
-    e₅ ∙ placed-behind at (at + (11 + n + n)) xs₄ (59 ∷ 10 ∷ []) buffer q₄ (omega arith) (omega arith)
+    let l : length (xs ++ d) ≡ 11 + n * 2 = length-append xs d ∙ omega arith in
+    let q₁ : o₁ ≡ putAt at xs buffer = e₁ ∙ placed-fits at xs buffer (omega arith) in
+    let q₂ : o₂ ≡ putAt at (xs ++ d) buffer = e₂ ∙ placed-behind at (at + 11) xs d buffer q₁ (omega arith) (omega arith) in
+    let r : xs ++ d ++ 59 ∷ 10 ∷ [] ≡ lineOf header payload ++ 10 ∷ [] = simp append-assoc in
+    let lr : length (lineOf header payload ++ 10 ∷ []) ≡ 13 + n * 2 = length-append (lineOf header payload) (10 ∷ []) ∙ omega (arith, line-length header payload) in
+    e₃ ∙ placed-behind at (at + (11 + n + n)) (xs ++ d) (59 ∷ 10 ∷ []) buffer q₂ (omega arith) (omega arith)
     ∙ ap (λ (x : List ℕ). putAt at x buffer) r
     ∙ sym (placed-fits at (lineOf header payload ++ 10 ∷ []) buffer (omega arith))
 
@@ -49,26 +43,22 @@ payload-length : (c : tie.Start) → length (take (c .args .frame .len) (c .args
 payload-length c = let h = full c in length-take-le (c .args .frame .len) (c .args .frame .bytes) (omega arith)
 
 array-share-prefix-bytes : tie.Need-array-share-prefix-bytes
-array-share-prefix-bytes c = let h = full (c .before .before .before .before .before .before .before .before .before .before .before .before .before .before .before) in omega arith
+array-share-prefix-bytes c = let h = full (c .before .before .before .before .before .before .before) in omega arith
 
 slice-aggregate-put-digits : tie.Need-slice-aggregate-put-digits
-slice-aggregate-put-digits c = sym (payload-length (c .before .before .before .before .before .before .before .before .before .before .before .before .before .before .before .before))
+slice-aggregate-put-digits c = sym (payload-length (c .before .before .before .before .before .before .before .before))
 
 returns : tie.Need-returns
 returns c =
-    let first = c .before .before .before .before .before .before .before .before .before .before .before .before .before .before .before .before .before .before .before .before .before .before .before .before in
+    let first = c .before .before .before .before .before .before .before .before .before .before .before .before .before .before .before .before in
     let f = first .args .frame in
-    let text = composed (f .header) (take (f .len) (f .bytes)) (f .len) (first .args .at) (first .args .out .now) _ _ _ _ _ (payload-length first) (first .pre .1) (c .before .before .before .before .before .before .before .before .before .before .before .before .before .before .before .before .before .before .before .put-pair .ensures) (c .before .before .before .before .before .before .before .before .before .before .before .before .before .before .before .put-number .ensures) (c .before .before .before .before .before .before .before .before .before .before .before .put-byte .ensures) (c .before .before .before .before .before .before .put-digits .ensures) (c .before .before .put-pair2 .ensures) in
+    let text = composed (f .header) (take (f .len) (f .bytes)) (f .len) (first .args .at) (first .args .out .now) (payload-length first) (first .pre .1) (c .before .before .before .before .before .before .before .before .before .before .before .put-head .ensures) (c .before .before .before .before .before .before .put-digits .ensures) (c .before .before .put-pair .ensures) in
     text ∙ ap (λ (x : List ℕ). placed (first .args .at) x (first .args .out .now)) (line-text f (first .pre .0))
 
 pub put-line-spec : {M : Type 1} → statement M
 put-line-spec =
     tie.close
     (tie.spec
-    (λ c. search needs)
-    (λ c κs. search needs)
-    (λ c. search needs)
-    (λ c κs. search needs)
     (λ c. search needs)
     (λ c κs. search needs)
     array-share-prefix-bytes

@@ -1,10 +1,10 @@
 -- `handle` meets its contract.
 -- Assumes nothing.
 use mathlib.Core.Path.{_≡_, refl, sym, ap, _∙_}
+use Rattle.board.specs.Table.{spacesIn}
 use Rattle.command.specs.Decoding.{readingOf}
-use Rattle.command.proofs.Laws.{AllowedIn, allowed}
-use Rattle.handler.specs.Performing.{handle}
-use Rattle.handler.proofs.Laws.{handle-bounds}
+use Rattle.handler.specs.Handling.{fixed, contents, handle}
+use Rattle.handler.proofs.Laws.{request-handled, handle-bounds}
 use borrow.Author.Needs.{needs}
 use Rattle.handler.proofs.handle.Statement.{statement}
 use Rattle.handler.proofs.handle.Tie as tie
@@ -17,18 +17,14 @@ returns c = (
   handle-bounds,
 )
 
-perform-requires : tie.Need-perform-requires
-perform-requires c κs =
-    let d = c .before .before .before .before .before .before .before .before .before .before .before .before .args .datagram .now in
-    let v = sym (c .before .before .before .before .before .before .decode .ensures) ∙ ap (λ r. readingOf r d) (c .before .before .before .before .decoded2 .given .1) in
-    rw v at (allowed d)
-
 returns-2 : tie.Need-returns-2
-unfolding handle
-returns-2 c = (
-  rw (← c .before .before .before .before .before .before .before .before .before .before .before .decode .ensures, c .before .before .before .before .before .before .before .before .before .decoded2 .given .1) (c .before .before .before .before .perform .ensures),
-  handle-bounds,
-)
+returns-2 c =
+    let a = c .before .before .before .before .before .before .before .before .before .before .before .before .before .before .before .before .before .args in
+    let d = a .datagram .now in (
+      request-handled (fixed (a .alias) (a .write-lengths) (spacesIn (a .spaces .now)) (a .flash .now)) (contents (a .memory .now) (a .lock .now)) d
+          (sym (c .before .before .before .before .before .before .before .before .before .before .before .decode .ensures) ∙ ap (λ r. readingOf r d) (c .before .before .before .before .before .before .before .before .before .decoded2 .given .1)) (c .before .before .before .before .perform .ensures),
+      handle-bounds,
+    )
 
 pub handle-spec : {M : Type 1} → statement M
 handle-spec =
@@ -38,7 +34,7 @@ handle-spec =
     (λ c. search needs)
     returns
     (λ c. search needs)
-    perform-requires
+    (λ c κs. search needs)
     (λ c. search needs)
     (λ c. search needs)
     returns-2)

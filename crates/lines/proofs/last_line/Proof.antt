@@ -5,11 +5,11 @@ use mathlib.Core.Bool.{false}
 use mathlib.Core.List.{[], _++_, append-nil}
 use borrow.Author.Needs.{needs}
 use borrow.Author.Tests.{eq-eqb, ne-eqb}
-use Rattle.gridconnect.specs.declared.Parsed.{Parsed}
-use Rattle.lines.specs.declared.Carry.{Carry}
-use Rattle.gridconnect.specs.Line.{parseOf, bad}
-use Rattle.lines.specs.Input.{unfinished, carryOf, begunOf, line, lastOf}
-use Rattle.lines.proofs.ChunkLaws.{ends}
+use Rattle.parsing.specs.declared.Parsed.{Parsed}
+use Rattle.input.specs.declared.Carry.{Carry}
+use Rattle.parsing.specs.Parsing.{parseOf, bad}
+use Rattle.input.specs.Input.{unfinished, carryOf, begunOf, line, lastOf}
+use Rattle.input.proofs.ChunkLaws.{ends}
 use Rattle.lines.proofs.last_line.Statement.{statement}
 use Rattle.lines.proofs.last_line.Tie as tie
 
@@ -25,13 +25,13 @@ module _ (carry : Carry) (p : Parsed) (s : Carry) (es : s ≡ carryOf []) where
 returns : tie.Need-returns
 returns c =
     let w = c .before .before .before .before .args .carry in
-    let e = no-last w _ _ (c .start .ensures) (c .before .before .if1 .taken) (c .before .bad-line .ensures) in
+    let e = no-last w _ _ (c .start .ensures .0) (c .before .before .if1 .taken) (c .before .bad-line .ensures) in
     (e, ends w e)
 
 returns-2 : tie.Need-returns-2
 returns-2 c =
     let w = c .before .before .before .before .before .args .carry in
-    let e = a-last w _ _ (c .start2 .ensures) (c .before .before .before .if1 .left) (c .before .parse-end .ensures) in
+    let e = a-last w _ _ (c .start2 .ensures .0) (c .before .before .before .if1 .left) (c .before .parse-end .ensures) in
     (e, ends w e)
 
 pub last-line-spec : {M : Type 1} → statement M

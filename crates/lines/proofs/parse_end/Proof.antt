@@ -7,9 +7,9 @@ use native.Mathlib.Omega.{arith}
 use borrow.Author.Needs.{needs}
 use lib.ListN.{length}
 use lib.Seq.{length-take-le}
-use Rattle.gridconnect.specs.Line.{parseOf}
-use Rattle.lines.specs.Input.{begunOf}
-use Rattle.lines.proofs.CutLaws.{nothing-begun, parse-carry, carry-short}
+use Rattle.parsing.specs.Parsing.{parseOf}
+use Rattle.input.specs.Input.{begunOf}
+use Rattle.input.proofs.CutLaws.{nothing-begun, parse-carry, carry-short}
 use Rattle.lines.proofs.parse_end.Statement.{statement}
 use Rattle.lines.proofs.parse_end.Tie as tie
 

@@ -1,17 +1,18 @@
 -- `places::is_held` meets its contract.
 -- Assumes nothing.
-use mathlib.Core.Path.{sym, ap}
+use mathlib.Core.Path.{sym, ap, _∙_}
+use mathlib.Core.Bool.{not}
+use Prim.Native.Nat.{ℕ}
+use lib.Dec.{eqb}
 use borrow.Author.Needs.{needs}
-use Rattle.reception.specs.Place.{Place}
-use Rattle.reception.proofs.ByteLaws.{at-none, held-at}
+use Rattle.places.proofs.ReadLaws.{held-is}
 use Rattle.places.proofs.is_held.Statement.{statement}
 use Rattle.places.proofs.is_held.Tie as tie
 
 returns : tie.Need-returns
-returns c = let a = c .before .args in ap (λ (p : Place). p .held) (sym (at-none (a .places .now) (a .i) (c .if1 .taken)))
-
-returns-2 : tie.Need-returns-2
-returns-2 c = let a = c .before .before .args in sym (held-at (a .places .now) (a .i) (c .before .if1 .left))
+returns c =
+    let a = c .before .args in
+    ap (λ (b : ℕ). not (eqb b 0)) (c .byte-of .ensures) ∙ sym (held-is (a .places .now) (a .i))
 
 pub is-held-spec : {M : Type 1} → statement M
-is-held-spec = tie.close (tie.spec returns (λ c. search needs) (λ c. search needs) returns-2)
+is-held-spec = tie.close (tie.spec (λ c κs. search needs) returns)

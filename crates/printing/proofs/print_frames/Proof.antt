@@ -18,16 +18,9 @@ returns-2 c = let a = c .before .before .before .args in no-room (a .at) (frames
 returns-3 : tie.Need-returns-3
 returns-3 c =
     let a = c .before .before .before .before .before .before .before .before .args in
-    let e : min (a .count) 10 ≡ 10 = omega arith in
-    let s = some-short (a .frames .now) 0 10 in
-    rw e (with-room (a .at) (framesText (framesFrom (a .frames .now) 0 10)) (a .out .now) (omega arith) (omega arith) (c .before .before .print-some .ensures))
-
-returns-4 : tie.Need-returns-4
-returns-4 c =
-    let a = c .before .before .before .before .before .before .before .before .args in
-    let e : min (a .count) 10 ≡ a .count = omega arith in
-    let s = some-short (a .frames .now) 0 (a .count) in
-    rw e (with-room (a .at) (framesText (framesFrom (a .frames .now) 0 (a .count))) (a .out .now) (omega arith) (omega arith) (c .before .before .print-some2 .ensures))
+    let n = c .before .before .before .before .at-most-ten in
+    let s = some-short (a .frames .now) 0 (n .result) in
+    rw (← n .ensures) (with-room (a .at) (framesText (framesFrom (a .frames .now) 0 (n .result))) (a .out .now) (omega arith) (omega arith) (c .before .before .print-some .ensures))
 
 pub print-frames-spec : {M : Type 1} → statement M
-print-frames-spec = tie.close (tie.spec returns (λ c. search needs) returns-2 (λ c κs. search needs) (λ c. search needs) returns-3 (λ c κs. search needs) (λ c. search needs) returns-4)
+print-frames-spec = tie.close (tie.spec returns returns-2 (λ c κs. search needs) (λ c κs. search needs) (λ c. search needs) returns-3)

@@ -7,8 +7,8 @@ use lib.ListN.{length}
 use borrow.Author.Needs.{needs}
 use Rattle.board.specs.Table.{spacesIn}
 use Rattle.reception.specs.PlaceBytes.{stateIn}
-use Rattle.handler.specs.Performing.{fixed, contents}
-use Rattle.lines.proofs.ChunkLaws.{any-cuts}
+use Rattle.handler.specs.Handling.{fixed, contents}
+use Rattle.input.proofs.ChunkLaws.{any-cuts}
 use Rattle.session.proofs.SessionLaws.{Going, going-start, going-next, going-full, going-end, step-onward, any-chunks}
 use Rattle.session.proofs.answer_chunk.Statement.{statement}
 use Rattle.session.proofs.answer_chunk.Tie as tie

@@ -2,7 +2,7 @@
 -- Assumes nothing.
 use Rattle.board.specs.Table.{spacesIn}
 use Rattle.reception.specs.PlaceBytes.{stateIn}
-use Rattle.handler.specs.Performing.{fixed, contents}
+use Rattle.handler.specs.Handling.{fixed, contents}
 use native.Mathlib.Omega.{arith}
 use Rattle.session.proofs.SessionLaws.{end-none, end-line}
 use borrow.Author.Needs.{needs}

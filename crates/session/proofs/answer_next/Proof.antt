@@ -2,7 +2,7 @@
 -- Assumes nothing.
 use Rattle.board.specs.Table.{spacesIn}
 use Rattle.reception.specs.PlaceBytes.{stateIn}
-use Rattle.handler.specs.Performing.{fixed, contents}
+use Rattle.handler.specs.Handling.{fixed, contents}
 use borrow.Author.Tests.{not-true, not-false}
 use native.Mathlib.Omega.{arith}
 use Rattle.session.proofs.SessionLaws.{step-none, step-line}

@@ -4,7 +4,7 @@ use native.Mathlib.Omega.{arith}
 use borrow.Author.Tests.{not-true, not-false}
 use Rattle.board.specs.Table.{spacesIn}
 use Rattle.reception.specs.PlaceBytes.{stateIn}
-use Rattle.handler.specs.Performing.{fixed, contents}
+use Rattle.handler.specs.Handling.{fixed, contents}
 use Rattle.turn.proofs.TurnLaws.{line-none, line-unknown, line-handled}
 use borrow.Author.Needs.{needs}
 use Rattle.turn.proofs.answer_line.Statement.{statement}

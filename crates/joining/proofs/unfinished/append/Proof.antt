@@ -1,26 +1,21 @@
 -- `joining::unfinished::append` meets its contract.
 -- Assumes nothing.
-use native.Mathlib.Omega.{arith}
+use mathlib.Core.Path.{refl}
+use mathlib.Core.Bool.{false}
 use borrow.Author.Needs.{needs}
-use Rattle.joining.proofs.JoinLaws.{append-done, close-done}
+use Rattle.joining.proofs.JoinLaws.{append-done}
 use Rattle.joining.proofs.unfinished.append.Statement.{statement}
 use Rattle.joining.proofs.unfinished.append.Tie as tie
 
 returns : tie.Need-returns
 returns c =
-    let p = c .before .before .before .before .before in
+    let p = c .before .before .before .before in
     let e = p .before .before .before .before in
     let a = e .args in
-    close-done (a .i) (a .len) (a .last) (a .payload .now) (a .pool .now) (a .places .now) (e .pre .0) (e .pre .1) _ _ (p .put .ensures) (c .before .before .if1 .taken) (a .source) _
-    (record { inside = e .pre .1 .inside; size = search needs; bytes = c .free .ensures }) (omega arith)
-
-returns-2 : tie.Need-returns-2
-returns-2 c =
-    let p = c .before .before .before .before .before in
-    let e = p .before .before .before .before in
-    let a = e .args in
-    append-done (a .i) (a .len) (a .last) (a .payload .now) (a .pool .now) (a .places .now) (e .pre .0) (e .pre .1) _ _ (p .put .ensures) (c .before .before .if1 .left) (a .source)
+    append-done (a .i) (a .len) false (a .payload .now) (a .pool .now) (a .places .now) (e .pre .0) (e .pre .1) _ _ (p .put .ensures) refl (a .source)
     (record { inside = e .pre .1 .inside; size = search needs; bytes = c .hold .ensures })
 
 pub append-spec : {M : Type 1} → statement M
-append-spec = tie.close (tie.spec (λ c. search needs) (λ c. search needs) (λ c κs. search needs) (λ c κs. search needs) (λ c. search needs) (λ c. search needs) returns (λ c. search needs) (λ c. search needs) (λ c κs. search needs) (λ c. search needs) returns-2)
+append-spec =
+    tie.close
+    (tie.spec (λ c. search needs) (λ c. search needs) (λ c κs. search needs) (λ c. search needs) (λ c. search needs) (λ c κs. search needs) (λ c. search needs) returns)

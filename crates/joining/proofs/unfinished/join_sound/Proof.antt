@@ -54,8 +54,8 @@ returns-4 c =
     step-joins (a .source) (a .i) (a .payload .now) (a .pool .now) (a .places .now) (e .pre .0) (e .pre .1) (e .pre .2) (a .role) (n .len-at .result) (n .len-at .ensures)
     does.Append (sym (t .enum-told4 .given .1) ∙ t .before .before .step-of .ensures) _ _ _ (c .before .before .append .ensures)
 
-append-requires-2 : tie.Need-append-requires-2
-append-requires-2 c κs =
+close-requires : tie.Need-close-requires
+close-requires c κs =
     let t = c .before .before in
     let n = t .before .before .before in
     let e = n .before .before .before .before in
@@ -72,7 +72,7 @@ returns-5 c =
     let e = n .before .before .before .before in
     let a = e .args in
     step-joins (a .source) (a .i) (a .payload .now) (a .pool .now) (a .places .now) (e .pre .0) (e .pre .1) (e .pre .2) (a .role) (n .len-at .result) (n .len-at .ensures)
-    does.Close (sym (t .enum-told5 .given .1) ∙ t .before .before .step-of .ensures) _ _ _ (c .before .before .append2 .ensures)
+    does.Close (sym (t .enum-told5 .given .1) ∙ t .before .before .step-of .ensures) _ _ _ (c .before .before .close .ensures)
 
 returns-6 : tie.Need-returns-6
 returns-6 c =
@@ -88,5 +88,5 @@ pub join-sound-spec : {M : Type 1} → statement M
 join-sound-spec =
     tie.close
     (tie.spec (λ c κs. search needs) (λ c. search needs) (λ c κs. search needs) (λ c. search needs) returns (λ c. search needs) returns-2 (λ c. search needs) (λ c κs. search needs)
-    (λ c. search needs) returns-3 (λ c. search needs) append-requires (λ c. search needs) returns-4 (λ c. search needs) append-requires-2 (λ c. search needs) returns-5
+    (λ c. search needs) returns-3 (λ c. search needs) append-requires (λ c. search needs) returns-4 (λ c. search needs) close-requires (λ c. search needs) returns-5
     (λ c. search needs) (λ c κs. search needs) returns-6)

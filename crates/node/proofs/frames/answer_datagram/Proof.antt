@@ -1,7 +1,7 @@
 -- `answer_datagram` meets its contract.
 -- Assumes nothing.
 use Rattle.board.specs.Table.{spacesIn}
-use Rattle.handler.specs.Performing.{fixed, contents}
+use Rattle.handler.specs.Handling.{fixed, contents}
 use Rattle.node.proofs.FrameLaws.{answers-finish}
 use borrow.Author.Needs.{needs}
 use Rattle.node.proofs.frames.answer_datagram.Statement.{statement}

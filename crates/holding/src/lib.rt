@@ -1,0 +1,51 @@
+// One of the eight places of the reception state changed in their lent bytes: held for a source, or freed. Nothing is changed for a place
+// that is not there.
+ghost use mathlib.Core.Path.{_≡_};
+ghost use Prim.Native.Nat.{_*_};
+ghost use Rattle.buffer.specs.Buffer.{placed};
+ghost use Rattle.reception.specs.Place.{place, heldFor, freePlace};
+ghost use Rattle.reception.specs.PlaceBytes.{placeBytes};
+
+// What the bytes of a place that have no meaning yet become where the place is changed.
+const SPARE: u8 = 0;
+
+// The bytes of a place.
+fn bytes_of(held: bool, len: u8, source: u16) -> [u8; 8]
+    ensures { λ r. ⌜ r ≡ placeBytes (place held len source) ⌝ }
+{
+    [
+        held as u8,
+        len,
+        (source % 256) as u8,
+        (source / 256) as u8,
+        SPARE,
+        SPARE,
+        SPARE,
+        SPARE,
+    ]
+}
+
+// The bytes of place i, as far as it is there. The test keeps `8 * i` small; `put` copies nothing that does not fit.
+fn put_place(places: &mut [u8], i: usize, held: bool, len: u8, source: u16)
+    ensures { λ _. ⌜ now (places .exit) ≡ placed (8 * i) (placeBytes (place held len source)) (now (places .entry)) ⌝ }
+{
+    if places.len() / 8 <= i {
+        return;
+    }
+    let bytes = bytes_of(held, len, source);
+    buffer::put(places, 8 * i, &bytes);
+}
+
+// Place i holds `len` bytes of the source. A datagram opened with zero bytes is held too.
+pub fn hold(places: &mut [u8], i: usize, source: u16, len: u8)
+    ensures { λ _. ⌜ now (places .exit) ≡ placed (8 * i) (placeBytes (heldFor source len)) (now (places .entry)) ⌝ }
+{
+    put_place(places, i, true, len, source);
+}
+
+// Place i becomes free.
+pub fn free(places: &mut [u8], i: usize)
+    ensures { λ _. ⌜ now (places .exit) ≡ placed (8 * i) (placeBytes freePlace) (now (places .entry)) ⌝ }
+{
+    put_place(places, i, false, 0, 0);
+}

@@ -1,0 +1,74 @@
+-- Laws of a place beside those before it: whether one of them is for a source, and B7.
+-- Assumes nothing.
+use mathlib.Core.Path.{_≡_, refl, sym, ap, _∙_}
+use mathlib.Core.Bool.{Bool, true, false, not, _&&_, _||_}
+use mathlib.Core.List.{List, [], _∷_, _++_}
+use Prim.Native.Nat.{ℕ, zero, suc, _+_, _<_}
+use native.Mathlib.Numerals.{add-one}
+use lib.Dec.{leb, ltb}
+use lib.ListN.{length, take, getD}
+use lib.Seq.{take-suc, getD-take}
+use borrow.Author.Tests.{ltb-true, ltb-false}
+use Rattle.buffer.proofs.Choice.{clash, by-test}
+use Rattle.reception.specs.Place.{Place, freePlace}
+use Rattle.reception.specs.Reception.{isFor, hasPlace, soundBeside}
+use Rattle.reception.specs.PlaceBytes.{placesIn}
+use Rattle.reception.proofs.PlaceLaws.{isFor-free, none-head, none-tail}
+use Rattle.reception.proofs.ByteLaws.{at-none}
+
+-- ---- one place more
+
+pub or-false : (b : Bool) → b || false ≡ b
+or-false true = refl
+or-false false = refl
+
+pub has-snoc : (s : ℕ) (xs : List Place) (p : Place) → hasPlace s (xs ++ p ∷ []) ≡ hasPlace s xs || isFor s p
+has-snoc s [] p = or-false (isFor s p)
+has-snoc s (q ∷ xs) p = go (isFor s q) (has-snoc s xs p)
+  where
+    go : (b : Bool) → hasPlace s (xs ++ p ∷ []) ≡ hasPlace s xs || isFor s p → b || hasPlace s (xs ++ p ∷ []) ≡ (b || hasPlace s xs) || isFor s p
+    go true e = refl
+    go false e = e
+
+module _ (ps : List Place) (i : ℕ) (h : i < length ps) where
+  pub has-next : (s : ℕ) → hasPlace s (take (i + 1) ps) ≡ hasPlace s (take i ps) || isFor s (getD ps i freePlace)
+  has-next s = rw (add-one, take-suc ps i freePlace h) (has-snoc s (take i ps) (getD ps i freePlace))
+
+-- ---- one place of those that are there
+
+pub none-at : (s i : ℕ) (ps : List Place) → hasPlace s ps ≡ false → isFor s (getD ps i freePlace) ≡ false
+none-at s i [] e = isFor-free s freePlace refl
+none-at s zero (p ∷ ps) e = none-head s p ps e
+none-at s (suc i) (p ∷ ps) e = none-at s i ps (none-tail s p ps e)
+
+-- place i is among the first n
+pub has-later : (s i n : ℕ) (ps : List Place) → i < n → isFor s (getD ps i freePlace) ≡ true → hasPlace s (take n ps) ≡ true
+has-later s i n ps h e = go (hasPlace s (take n ps)) refl
+  where
+    go : (b : Bool) → hasPlace s (take n ps) ≡ b → hasPlace s (take n ps) ≡ true
+    go true q = q
+    go false q = clash (sym e ∙ rw (getD-take n ps i freePlace h) at (none-at s i (take n ps) q))
+
+-- ---- the test of one place
+
+-- a place that is held is one of the eight
+pub held-there : (xs : List ℕ) (i : ℕ) → getD (placesIn xs) i freePlace .held ≡ true → i < 8
+held-there xs i u =
+    by-test (ltb i 8)
+    (λ q. ltb-true i 8 q)
+    (λ q. clash (sym u ∙ ap (λ (p : Place). p .held) (at-none xs i (ltb-false i 8 q))))
+
+and-three : (a b c : Bool) → a && (b && c) ≡ (a && b) && c
+and-three true b c = refl
+and-three false b c = refl
+
+module _ (ps : List Place) (p : Place) where
+  pub sound-free : p .held ≡ false → true ≡ (not (p .held) || soundBeside ps p)
+  sound-free u = rw u
+
+  module _ (u : p .held ≡ true) where
+    pub sound-not : (leb (p .len) 72 && leb (p .source) 4095) ≡ false → false ≡ (not (p .held) || soundBeside ps p)
+    sound-not e = rw (u, and-three (leb (p .len) 72) (leb (p .source) 4095) (not (hasPlace (p .source) ps)), e)
+
+    pub sound-alone : (leb (p .len) 72 && leb (p .source) 4095) ≡ true → not (hasPlace (p .source) ps) ≡ (not (p .held) || soundBeside ps p)
+    sound-alone e = rw (u, and-three (leb (p .len) 72) (leb (p .source) 4095) (not (hasPlace (p .source) ps)), e)

@@ -1,0 +1,79 @@
+// The eight places of the reception state looked through: for a source, with B7, and for a free place.
+ghost use mathlib.Core.Path.{_≡_};
+ghost use mathlib.Core.Bool.{true, false};
+ghost use Prim.Native.Nat.{ℕ};
+ghost use lib.Bits.{bitOr};
+ghost use lib.ListN.{take, getD};
+ghost use Rattle.reception.specs.Place.{freePlace};
+ghost use Rattle.reception.specs.Reception.{freeIn};
+ghost use Rattle.reception.specs.PlaceBytes.{placesIn};
+ghost use Rattle.sources.specs.Search.{nextFound, lookedUp};
+
+const PLACES: usize = 8;
+
+// The first free place: 8 where there is none.
+pub fn find_free(places: &[u8; 64]) -> usize
+    ensures { λ i. ⌜ i ≡ freeIn (placesIn (now (places .entry))) ⌝ }
+{
+    let mut i: usize = 0;
+    while i < PLACES {
+        if !places::is_held(places, i) {
+            return i;
+        }
+        i += 1;
+    }
+    i
+}
+
+// What the search for a source has found after place i, where it had `found` before: 9 where B7 refuses place i.
+fn next_found(places: &[u8; 64], i: usize, source: u16, found: usize) -> usize
+    ensures { λ r. ⌜ r ≡ nextFound source (take i (placesIn (now (places .entry)))) (getD (placesIn (now (places .entry))) i freePlace) i found ⌝ }
+{
+    if !soundness::is_sound_at(places, i) {
+        return 9;
+    }
+    if places::is_for(places, i, source) {
+        return i;
+    }
+    found
+}
+
+// The bits of the bytes that say whether a place is held, of the first four places: 0 where none of them is.
+fn held_of_first(places: &[u8; 64]) -> u8
+    ensures { λ r. ⌜ r ≡ bitOr (bitOr (bitOr (getD (now (places .entry)) 0 0) (getD (now (places .entry)) 8 0)) (getD (now (places .entry)) 16 0)) (getD (now (places .entry)) 24 0) ⌝ }
+{
+    places[0] | places[8] | places[16] | places[24]
+}
+
+// The same of the last four.
+fn held_of_last(places: &[u8; 64]) -> u8
+    ensures { λ r. ⌜ r ≡ bitOr (bitOr (bitOr (getD (now (places .entry)) 32 0) (getD (now (places .entry)) 40 0)) (getD (now (places .entry)) 48 0)) (getD (now (places .entry)) 56 0) ⌝ }
+{
+    places[32] | places[40] | places[48] | places[56]
+}
+
+// Whether no place holds a datagram, asked of all eight at once: so it is for most frames.
+fn is_idle(places: &[u8; 64]) -> bool
+    ensures { λ r. ⌜ (r ≡ true → (i : ℕ) → getD (placesIn (now (places .entry))) i freePlace .held ≡ false) ⌝ }
+{
+    held_of_first(places) | held_of_last(places) == 0
+}
+
+// The place of a source, 8 where there is none, and 9 where B7 refuses the places.
+pub fn look_up(places: &[u8; 64], source: u16) -> usize
+    ensures { λ r. ⌜ r ≡ lookedUp source (placesIn (now (places .entry))) ⌝ }
+{
+    if is_idle(places) {
+        return PLACES;
+    }
+    let mut found: usize = PLACES;
+    let mut i: usize = 0;
+    while i < PLACES {
+        found = next_found(places, i, source, found);
+        if found == 9 {
+            return 9;
+        }
+        i += 1;
+    }
+    found
+}

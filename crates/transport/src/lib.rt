@@ -1,0 +1,71 @@
+// The frames of the transport replies Received OK and Rejected, and a reply behind Received OK. They are put into lent bytes, 16 for each,
+// with room for the ten frames that an answer has at most.
+ghost use mathlib.Core.Path.{_≡_};
+ghost use mathlib.Core.List.{_++_};
+ghost use Prim.Native.Nat.{_+_, _≤_, _<_};
+ghost use lib.ListN.{length};
+ghost use Rattle.buffer.specs.Buffer.{over};
+ghost use Rattle.frame.specs.Frame.{frameOf};
+ghost use Rattle.layout.specs.Layout.{framesBytes};
+ghost use Rattle.fragments.specs.Cutting.{cutFrames};
+ghost use Rattle.transport.specs.Transport.{transportReply, receivedOk, rejectedWith};
+
+// The headers of the transport replies, without the board's alias.
+const RECEIVED_OK: u32 = 0x19A28000;
+
+const REJECTED: u32 = 0x19A48000;
+
+// Puts a transport reply in front: its header is `top` with the board's alias in the low bits. 1, or 0 and no frame made where an alias is
+// over 4,095.
+fn put_reply(out: &mut [u8], top: u32, board: u16, tool: u16, part: &[u8]) -> usize
+    requires { ⌜ (top < 0x20000000) × (length (now part) ≤ 8) × (16 ≤ length (now out)) ⌝ }
+    ensures count { λ r. ⌜ r ≡ length (transportReply board tool (frameOf (top + board) (now (part .entry)))) ⌝ }
+    ensures bytes { λ _. ⌜ now (out .exit) ≡ over (framesBytes (transportReply board tool (frameOf (top + board) (now (part .entry))))) (now (out .entry)) ⌝ }
+{
+    if !fragments::are_aliases(board, tool) {
+        return 0;
+    }
+    layout::put_frame(out, 0, top + board as u32, part);
+    1
+}
+
+// Received OK with its flags, from the board to a tool: 1, or 0 and no frame made where an alias is over 4,095, which no header carries.
+pub fn received_ok(board: u16, tool: u16, flags: u8, frames: &mut [u8; 160]) -> usize
+    ensures count { λ r. ⌜ r ≡ length (receivedOk board tool flags) ⌝ }
+    ensures bytes { λ _. ⌜ now (frames .exit) ≡ over (framesBytes (receivedOk board tool flags)) (now (frames .entry)) ⌝ }
+{
+    let part = [(tool / 256) as u8, (tool % 256) as u8, flags];
+    put_reply(frames, RECEIVED_OK, board, tool, &part)
+}
+
+// Received OK with its flags, and behind it the frames of a reply: 1 to 10, or 0 and no frame made where an alias is over 4,095. A reply
+// that B9 refuses adds none.
+pub fn received_ok_then(
+    board: u16,
+    tool: u16,
+    flags: u8,
+    reply: &[u8],
+    frames: &mut [u8; 160],
+) -> usize
+    ensures count { λ r. ⌜ r ≡ length (receivedOk board tool flags ++ cutFrames (now (reply .entry)) tool board) ⌝ }
+    ensures bytes { λ _. ⌜ now (frames .exit) ≡ over (framesBytes (receivedOk board tool flags ++ cutFrames (now (reply .entry)) tool board)) (now (frames .entry)) ⌝ }
+{
+    if received_ok(board, tool, flags, frames) == 0 {
+        return 0;
+    }
+    cutting::cut_behind(reply, tool, board, frames)
+}
+
+// Rejected with its code, from the board to a tool: 1, or 0 and no frame made where an alias is over 4,095, which no header carries.
+pub fn rejected(board: u16, tool: u16, code: u16, frames: &mut [u8; 160]) -> usize
+    ensures count { λ r. ⌜ r ≡ length (rejectedWith board tool code) ⌝ }
+    ensures bytes { λ _. ⌜ now (frames .exit) ≡ over (framesBytes (rejectedWith board tool code)) (now (frames .entry)) ⌝ }
+{
+    let part = [
+        (tool / 256) as u8,
+        (tool % 256) as u8,
+        (code / 256) as u8,
+        (code % 256) as u8,
+    ];
+    put_reply(frames, REJECTED, board, tool, &part)
+}
