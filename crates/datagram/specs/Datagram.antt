@@ -6,7 +6,6 @@ use mathlib.Core.Path.{_≡_}
 use lib.ListN.{length}
 use Rattle.house.specs.HouseNumbers.{isGood}
 use Rattle.house.specs.declared.HouseNumber.{HouseNumber}
-use Rattle.house.specs.declared.HouseNumber.the-variants.{Good}
 use Rattle.description.specs.Calls.{callHouse}
 use Rattle.reply.specs.Answers.{answerOf, bufferOf, SmallAnswer}
 use Rattle.access.specs.Access.{Changes}

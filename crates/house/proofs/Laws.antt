@@ -1,26 +1,18 @@
 -- Laws of the house numbers of a description.
 -- Assumes nothing.
-use Prim.Native.Nat.{ℕ, zero, suc, _+_, _-_, _*_, _/_, _%_, _^_, _≤_, _<_, min, max}
+use Prim.Native.Nat.{ℕ, _+_, _≤_}
 use mathlib.Core.Path.{_≡_, refl, sym, ap, _∙_}
-use mathlib.Core.Bool.{Bool, true, false, cond, not, _&&_, _||_}
+use mathlib.Core.Bool.{Bool, true, false, not, _&&_, _||_}
 use mathlib.Core.List.{List, [], _∷_, _++_}
-use native.Mathlib.Numerals.{add-one}
-use native.Mathlib.Omega.{arith}
-use lib.Arith.{bin-ind}
-use lib.Bits.{bitAnd, bitOr, and-step, or-step, and-zero-l, and-self, or-comm}
-use lib.Dec.{eqb, ltb, lit<}
-use lib.Pow.{pow-pos, shl-exact}
-use lib.ListN.{length, drop, getD, drop-of-length-le}
-use lib.Seq.{drop-cons}
-use borrow.Author.Tests.{eq-eqb, ne-eqb, eqb-true, eqb-false, ltb-false, not-true, not-false}
+use lib.Dec.{eqb, ltb}
+use lib.ListN.{length}
+use borrow.Author.Tests.{ltb-false, not-true, not-false}
 use Rattle.buffer.proofs.Choice.{cond-true, cond-false, cond-elim, cond-not, clash, or-left}
-use Rattle.board.specs.Table.{noSpace, rowAt, spaceAt, spacesFrom, spacesIn}
-use Rattle.board.proofs.Laws.{spaces-length, space-in, table-next, table-done}
 use Rattle.board.specs.Description.{sizeOf, storeOf, findSpace}
 use Rattle.board.specs.declared.Found.{Found}
 use Rattle.board.specs.declared.Found.the-variants.{Described, Empty, Unknown}
 use Rattle.board.specs.declared.Space.{Space}
-use Rattle.house.specs.HouseNumbers.{isGood, orElse, among, numbersOf, windowHouse, spaceHouse, spacesHouse, limitsHouse, descriptionHouse}
+use Rattle.house.specs.HouseNumbers.{isGood, orElse, windowHouse, spaceHouse, spacesHouse, limitsHouse, descriptionHouse}
 use Rattle.house.specs.declared.HouseNumber.{HouseNumber}
 use Rattle.house.specs.declared.HouseNumber.the-variants.{Good, B1, B2, B3, B4, B5, B6, B7}
 
