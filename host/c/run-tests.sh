@@ -84,6 +84,7 @@ compile host "-O2 -g" host.c
 compile host-sanitized "$sanitizers" host.c
 python3 "$here/tests/document_test.py" "$root/docs/DRIVER.md" "$root" "$out"
 python3 "$here/tests/assumptions_test.py" "$root"
+python3 "$here/tests/demands_test.py" "$root"
 
 echo "host/c: the reference host"
 python3 "$here/tests/host_test.py" "$out/host"

@@ -6,9 +6,9 @@ use mathlib.Core.List.{List}
 use Rattle.board.specs.declared.Space.{Space}
 use Rattle.fields.specs.declared.Form.{Form}
 use Rattle.reply.specs.Replies.{readReply, failedRead, failedWrite}
-use Rattle.reply.specs.Answers.{receivedOkReply, answerOf, Agrees}
-use Rattle.reply.specs.declared.Answer.{Answer}
-use Rattle.reply.specs.declared.Answer.the-variants.{Written}
+use Rattle.answer.specs.Answers.{receivedOkReply, answerOf, Agrees}
+use Rattle.answer.specs.declared.Answer.{Answer}
+use Rattle.answer.specs.declared.Answer.the-variants.{Written}
 use Rattle.reach.specs.Reach.{indexOf}
 use Rattle.reach.specs.declared.Access.{Access}
 use Rattle.reach.specs.declared.Access.the-variants.{Fails, Reaches}

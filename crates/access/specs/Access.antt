@@ -7,9 +7,9 @@ use Rattle.board.specs.Description.{windowOf}
 use Rattle.board.specs.declared.Space.{Space}
 use Rattle.fields.specs.declared.Form.{Form}
 use Rattle.reply.specs.Replies.{readReply, failedRead, failedWrite}
-use Rattle.reply.specs.Answers.{Result, written, receivedOkReply, Agrees}
-use Rattle.reply.specs.declared.Answer.{Answer}
-use Rattle.reply.specs.declared.Answer.the-variants.{Rejected, Written, UpdateComplete, Replied}
+use Rattle.answer.specs.Answers.{Result, written, receivedOkReply, Agrees}
+use Rattle.answer.specs.declared.Answer.{Answer}
+use Rattle.answer.specs.declared.Answer.the-variants.{Rejected, Written, UpdateComplete, Replied}
 use Rattle.reach.specs.Reach.{indexOf}
 use Rattle.reach.specs.declared.Access.{Access}
 use Rattle.reach.specs.declared.Access.the-variants.{Fails, Reaches}

@@ -1,8 +1,8 @@
 // Reads, writes and masked writes of a space.
+use answer::Answer;
 use board::Space;
 use fields::Form;
 use reach::Access;
-use reply::Answer;
 ghost use mathlib.Core.Path.{_≡_};
 ghost use mathlib.Core.Bool.{true, false};
 ghost use Prim.Native.Nat.{_≤_, _/_};
@@ -10,7 +10,7 @@ ghost use lib.ListN.{length};
 ghost use Rattle.board.specs.Description.{findSpace};
 ghost use Rattle.board.specs.Table.{spacesIn};
 ghost use Rattle.fields.specs.Commands.{pairsOf};
-ghost use Rattle.reply.specs.Answers.{Agrees};
+ghost use Rattle.answer.specs.Answers.{Agrees};
 ghost use Rattle.reach.specs.Reach.{access, indexOf, WritesFit};
 ghost use Rattle.storing.specs.Storing.{storeBytes, storeMasked};
 ghost use Rattle.access.specs.Access.{bytesRead, readResult, Writes};

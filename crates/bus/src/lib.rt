@@ -1,10 +1,10 @@
 // A frame from its arrival on the bus to the frames that answer it.
-use node::FrameAnswer;
+use call::FrameAnswer;
 ghost use Rattle.board.specs.Table.{spacesIn};
 ghost use Rattle.frame.specs.Frame.{canFrame, sourceOf};
 ghost use Rattle.reception.specs.PlaceBytes.{stateIn};
 ghost use Rattle.handler.specs.Handling.{fixed, contents};
-ghost use Rattle.node.specs.Frames.{frameCall, Answers, Keeps, SmallFrame, FrameChanges};
+ghost use Rattle.call.specs.FrameCall.{frameCall, Answers, Keeps, SmallFrame, FrameChanges};
 ghost use Rattle.sending.specs.Sending.{sentFor, Made, BusOrder};
 
 // What comes of a frame, and the number of frames to send.

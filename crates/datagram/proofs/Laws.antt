@@ -14,8 +14,8 @@ use Rattle.house.specs.declared.HouseNumber.{HouseNumber}
 use Rattle.house.specs.declared.HouseNumber.the-variants.{Good}
 use Rattle.house.proofs.Laws.{is-good, bad, orElse-good, good-limits}
 use Rattle.description.specs.Calls.{bufferHouse, callHouse}
-use Rattle.reply.specs.Answers.{Result, datagramRejected, written, updateCompleted, receivedOkReply, answerOf, bufferOf, fitted, SmallAnswer}
-use Rattle.reply.specs.declared.Answer.{Answer}
+use Rattle.answer.specs.Answers.{Result, datagramRejected, written, updateCompleted, receivedOkReply, answerOf, bufferOf, fitted, SmallAnswer}
+use Rattle.answer.specs.declared.Answer.{Answer}
 use Rattle.access.specs.Access.{Changes}
 use Rattle.handler.specs.Handling.{Fixed, Contents, handle, Short, Inside, Performs}
 use Rattle.handler.proofs.Laws.{whole, handle-bounds}

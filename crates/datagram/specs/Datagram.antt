@@ -7,7 +7,7 @@ use lib.ListN.{length}
 use Rattle.house.specs.HouseNumbers.{isGood}
 use Rattle.house.specs.declared.HouseNumber.{HouseNumber}
 use Rattle.description.specs.Calls.{callHouse}
-use Rattle.reply.specs.Answers.{answerOf, bufferOf, SmallAnswer}
+use Rattle.answer.specs.Answers.{answerOf, bufferOf, SmallAnswer}
 use Rattle.access.specs.Access.{Changes}
 use Rattle.handler.specs.Handling.{Fixed, Contents, Outcome, handle}
 use Rattle.datagram.specs.declared.Handled.{Handled}

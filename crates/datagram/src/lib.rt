@@ -1,6 +1,6 @@
 // The call for a whole datagram: the house numbers B1 to B6, and then the datagram handled.
+use answer::Answer;
 use house::HouseNumber;
-use reply::Answer;
 ghost use Rattle.board.specs.Table.{spacesIn};
 ghost use Rattle.handler.specs.Handling.{fixed, contents};
 ghost use Rattle.datagram.specs.Datagram.{datagramCall, Ends, SmallHandled, HandledChanges};

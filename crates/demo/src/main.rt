@@ -1,5 +1,5 @@
 // The demonstration program of document 01: reads GridConnect lines from standard input to its end, and prints what the demonstration
-// board answers to each. What it prints is the library's (crate `session`): this program only reads and writes.
+// board answers to each. What it prints is the library's (crate `chunks`): this program only reads and writes.
 use input::Carry;
 
 mod standard;
@@ -31,7 +31,7 @@ fn answer_block(
     let mut carry = begun;
     let mut at: usize = 0;
     while at < block.len() {
-        let done = session::answer_chunk(
+        let done = chunks::answer_chunk(
             demonstration::alias(),
             demonstration::write_lengths(),
             spaces,
@@ -73,7 +73,7 @@ fn answer_read(
         let block = buffer::part(input, 0, n);
         return answer_block(spaces, flash, memory, lock, pool, places, block, begun, out);
     }
-    let end = session::answer_end(
+    let end = chunks::answer_end(
         demonstration::alias(),
         demonstration::write_lengths(),
         spaces,

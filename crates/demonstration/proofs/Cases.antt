@@ -11,7 +11,7 @@ use Rattle.house.specs.declared.HouseNumber.the-variants.{Good}
 use Rattle.fields.specs.Commands.{kindOf, restOf}
 use Rattle.command.specs.Decoding.{decodeRead, decodeWrite, decodeMasked, decodeKind, decode}
 use Rattle.buffer.specs.Buffer.{putAt, placed}
-use Rattle.reply.specs.Replies.{replyHead}
+use Rattle.head.specs.Head.{replyHead}
 use Rattle.inquiry.specs.Inquiry.{informationReply}
 use Rattle.access.specs.Access.{readResult, writeResult, memoryAfter}
 use Rattle.handler.specs.Handling.{Outcome, outcome, perform, handle}

@@ -13,12 +13,12 @@ use Rattle.reception.specs.PlaceBytes.{placesIn}
 use Rattle.reception.specs.Reception.{isFor, joinSound, receive}
 use Rattle.fragments.specs.Cutting.{restFrames, framesOf, cutFrames}
 use Rattle.transport.specs.Transport.{receivedOk, rejectedWith}
-use Rattle.reply.specs.Replies.{replyHead}
+use Rattle.head.specs.Head.{replyHead}
 use Rattle.storing.specs.Storing.{masked, storeMasked}
 use Rattle.access.specs.Access.{readResult, writeResult, memoryAfter}
 use Rattle.handler.specs.Handling.{perform, handle}
 use Rattle.datagram.specs.Datagram.{datagramHouse}
-use Rattle.node.specs.Frames.{frameCall}
+use Rattle.call.specs.FrameCall.{frameCall}
 use Rattle.sending.specs.Sending.{framesToSend}
 use Rattle.digit.specs.Digit.{digitValue, digitOf}
 use Rattle.hex.specs.Digits.{digitsOf, hexDigits}
@@ -28,7 +28,7 @@ use Rattle.marks.specs.Form.{formed}
 use Rattle.parsing.specs.Parsing.{parseOf}
 use Rattle.printing.specs.Printing.{framesText}
 use Rattle.input.specs.Input.{completed, unfinished, endLine}
-use Rattle.turn.specs.Turn.{answerLine}
+use Rattle.session.specs.Turn.{answerLine}
 use Rattle.session.specs.Session.{answerLines}
 use Rattle.demonstration.specs.PaperSession.{PaperSession}
 

@@ -5,7 +5,7 @@ use mathlib.Core.List.{List, [], _∷_, _++_, map}
 use lib.ListN.{length, replicate}
 use Rattle.house.specs.HouseNumbers.{descriptionHouse}
 use Rattle.house.specs.declared.HouseNumber.the-variants.{Good}
-use Rattle.reply.specs.Answers.{Result, datagramRejected, receivedOkReply}
+use Rattle.answer.specs.Answers.{Result, datagramRejected, receivedOkReply}
 use Rattle.handler.specs.Handling.{Outcome, outcome, handle}
 use Rattle.demonstration.specs.Board.{demoAlias, demoSpaces, demoFlash, demoMemory, demoFixed, demoContents}
 

@@ -6,11 +6,11 @@ use lib.ListN.{length}
 use Rattle.house.specs.declared.HouseNumber.{HouseNumber}
 use Rattle.frame.specs.declared.Frame.{Frame}
 use Rattle.reception.specs.Order.{FrameResult}
-use Rattle.reply.specs.Answers.{Result}
+use Rattle.answer.specs.Answers.{Result}
 use Rattle.storing.specs.Storing.{OnlyWithin}
 use Rattle.handler.specs.Handling.{Contents}
 use Rattle.datagram.specs.Datagram.{Final}
-use Rattle.node.specs.Frames.{frameAnswerOf, frameBufferOf}
+use Rattle.call.specs.FrameCall.{frameAnswerOf, frameBufferOf}
 use Rattle.result.specs.Result.{handledResult, frameResult}
 use Rattle.result.specs.declared.CallResult.{CallResult}
 

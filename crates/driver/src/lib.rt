@@ -17,7 +17,7 @@ ghost use Rattle.fragments.specs.Cutting.{cutFrames};
 ghost use Rattle.transport.specs.Transport.{receivedOk, rejectedWith};
 ghost use Rattle.handler.specs.Handling.{fixed, contents};
 ghost use Rattle.datagram.specs.Datagram.{datagramCall};
-ghost use Rattle.node.specs.Frames.{frameCall, Keeps};
+ghost use Rattle.call.specs.FrameCall.{frameCall, Keeps};
 ghost use Rattle.sending.specs.Sending.{sentFor};
 ghost use Rattle.gridconnect.specs.Line.{frameText, Printed};
 ghost use Rattle.parsing.specs.Parsing.{parseOf};

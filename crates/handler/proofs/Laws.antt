@@ -19,10 +19,10 @@ use Rattle.fields.specs.declared.Form.{Form}
 use Rattle.fields.specs.declared.Form.the-variants.{NoSpace, Byte6, Fd, Fe, Ff}
 use Rattle.command.specs.Decoding.{Reading, rejected, request, decode}
 use Rattle.command.proofs.Laws.{Allowed, allowed}
-use Rattle.reply.specs.Replies.{replyHead}
+use Rattle.head.specs.Head.{replyHead}
 use Rattle.inquiry.specs.Inquiry.{informationReply, accessFlag}
-use Rattle.reply.specs.Answers.{Result, datagramRejected, written, updateCompleted, receivedOkReply, fitted}
-use Rattle.reply.specs.declared.Answer.{Answer}
+use Rattle.answer.specs.Answers.{Result, datagramRejected, written, updateCompleted, receivedOkReply, fitted}
+use Rattle.answer.specs.declared.Answer.{Answer}
 use Rattle.reach.specs.Reach.{access}
 use Rattle.reach.proofs.Laws.{writes-fit}
 use Rattle.storing.specs.Storing.{storeBytes, storeMasked, OnlyWithin}
@@ -53,12 +53,12 @@ behind-head command form space address bytes h =
 
 read-short : (flash memory : List ℕ) (form : Form) (space address count : ℕ) (a : Access) → count ≤ 64 → Short (readResult flash memory form space address count a)
 unfolding readResult
-read-short flash memory form space address count (Fails code) h = behind-head 0x58 form space address _ (omega arith)
-read-short flash memory form space address count (Reaches s) h = behind-head 0x50 form space address _ (rw length-take (omega arith))
+read-short flash memory form space address count (Fails code) h = behind-head _ form space address _ (omega arith)
+read-short flash memory form space address count (Reaches s) h = behind-head _ form space address _ (rw length-take (omega arith))
 
 write-short : (form : Form) (space address n : ℕ) (a : Access) → n ≤ 64 → Short (writeResult form space address n a)
 unfolding writeResult
-write-short form space address n (Fails code) h = behind-head 0x18 form space address _ (omega arith)
+write-short form space address n (Fails code) h = behind-head _ form space address _ (omega arith)
 write-short form space address n (Reaches s) h = h
 
 information-short : (n : ℕ) (found : Found) → length (informationReply n found) ≤ 72

@@ -6,8 +6,8 @@ use lib.ListN.{length}
 use Rattle.house.specs.HouseNumbers.{descriptionHouse}
 use Rattle.house.specs.declared.HouseNumber.the-variants.{Good}
 use Rattle.command.specs.Decoding.{Reading, rejected, request, decode}
-use Rattle.reply.specs.Answers.{Result, datagramRejected, written, updateCompleted, receivedOkReply, answerOf, Agrees}
-use Rattle.reply.specs.declared.Answer.{Answer}
+use Rattle.answer.specs.Answers.{Result, datagramRejected, written, updateCompleted, receivedOkReply, answerOf, Agrees}
+use Rattle.answer.specs.declared.Answer.{Answer}
 use Rattle.access.specs.Access.{Changes}
 pub use Rattle.performing.specs.Performing.{Fixed, fixed, Contents, contents, Outcome, outcome}
 unfoldable pub use Rattle.performing.specs.Performing.{perform}

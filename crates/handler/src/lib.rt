@@ -1,6 +1,6 @@
 // A datagram handled whole: decoded, and what it asks for performed.
+use answer::Answer;
 use command::Decoded;
-use reply::Answer;
 ghost use Rattle.board.specs.Table.{spacesIn};
 ghost use Rattle.handler.specs.Handling.{fixed, contents, handle, Performs, HandleBounds};
 

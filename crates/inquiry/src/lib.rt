@@ -1,11 +1,11 @@
 // The commands that ask about the board: its options, and what is known of a space.
+use answer::Answer;
 use board::Found;
 use board::Space;
-use reply::Answer;
 ghost use mathlib.Core.Path.{_≡_};
 ghost use Prim.Native.Nat.{_≤_};
 ghost use Rattle.board.specs.Table.{spacesIn};
-ghost use Rattle.reply.specs.Answers.{receivedOkReply, Agrees};
+ghost use Rattle.answer.specs.Answers.{receivedOkReply, Agrees};
 ghost use Rattle.inquiry.specs.Inquiry.{optionsReply, accessFlag, absentReply, informationReply};
 
 // 0x80: what the board can do.
@@ -14,7 +14,7 @@ pub fn options(out: &mut [u8], write_lengths: u8, spaces: &[u8]) -> Answer
 {
     let lowest = board::lowest_number(spaces);
     let bytes = [0x20u8, 0x82, 0xE0, 0x00, write_lengths, 0xFF, lowest];
-    reply::whole(out, &bytes)
+    answer::whole(out, &bytes)
 }
 
 fn access_flag(space: Space) -> u8
@@ -30,7 +30,7 @@ fn absent(out: &mut [u8], number: u8) -> Answer
     ensures { λ r. ⌜ Agrees (receivedOkReply (absentReply number)) r (now (out .entry)) (now (out .exit)) ⌝ }
 {
     let bytes = [0x20u8, 0x86, number, 0, 0, 0, 0, 0];
-    reply::whole(out, &bytes)
+    answer::whole(out, &bytes)
 }
 
 fn present(out: &mut [u8], number: u8, space: Space) -> Answer
@@ -40,7 +40,7 @@ fn present(out: &mut [u8], number: u8, space: Space) -> Answer
     let h = buffer::bytes(space.highest);
     if space.lowest == 0 {
         let bytes = [0x20u8, 0x87, number, h[0], h[1], h[2], h[3], flag];
-        return reply::whole(out, &bytes);
+        return answer::whole(out, &bytes);
     }
     let l = buffer::bytes(space.lowest);
     let bytes = [
@@ -57,7 +57,7 @@ fn present(out: &mut [u8], number: u8, space: Space) -> Answer
         l[2],
         l[3],
     ];
-    reply::whole(out, &bytes)
+    answer::whole(out, &bytes)
 }
 
 // 0x84: what is known of a space.

@@ -1,135 +1,46 @@
--- Laws of the frame call, and demand 3 of it.
+-- Laws of the frame call over what joining gives.
 -- Assumes nothing.
-use Prim.Native.Nat.{ℕ, suc, _+_, _≤_}
-use mathlib.Core.Path.{_≡_, refl, sym, ap, _∙_}
-use mathlib.Core.Bool.{Bool, true, false, cond}
-use mathlib.Core.List.{List, [], _∷_, _++_}
-use lib.ListN.{length}
-use borrow.Author.Tests.{le-ltb}
-use Rattle.house.specs.HouseNumbers.{isGood, descriptionHouse}
-use Rattle.house.specs.declared.HouseNumber.{HouseNumber}
-use Rattle.house.specs.declared.HouseNumber.the-variants.{Good, B7}
+use Prim.Native.Nat.{ℕ, _≤_}
+use mathlib.Core.Path.{_≡_, sym, ap, _∙_}
+use mathlib.Core.Bool.{true}
+use mathlib.Core.List.{List}
+use Rattle.house.specs.HouseNumbers.{isGood}
+use Rattle.house.specs.declared.HouseNumber.the-variants.{B7}
 use Rattle.house.proofs.Laws.{is-good}
 use Rattle.frame.specs.Frame.{CanFrame}
-use Rattle.reception.specs.Place.{Place}
-use Rattle.reception.specs.Reception.{State, state, receive}
-use Rattle.reception.specs.PlaceBytes.{placesIn}
-use Rattle.reception.specs.Order.{FrameResult, result, houseRefusal, answerEvent, handleFrame}
-use Rattle.reception.specs.Books.{Event, ignored, noAnswer, refuse, finish, badState}
-use Rattle.reception.proofs.Order.{order}
+use Rattle.reception.specs.Reception.{State, receive}
+use Rattle.reception.specs.Order.{answerEvent, handleFrame}
 use Rattle.joining.specs.Joins.{eventOf, InsidePool, Joins}
 use Rattle.joining.specs.declared.Outcome.{Outcome}
 use Rattle.joining.specs.declared.Outcome.the-variants as outcome
-use Rattle.access.specs.Access.{Changes}
-use Rattle.handler.specs.Handling.{Fixed, Contents, handle, Performs}
-use Rattle.handler.proofs.Laws.{whole, handle-bounds}
+use Rattle.handler.specs.Handling.{Fixed, Contents}
 use Rattle.datagram.specs.Datagram.{datagramHouse}
-use Rattle.datagram.proofs.Laws.{answer-small}
-use Rattle.reply.specs.Answers.{Result, answerOf, bufferOf}
-use Rattle.reply.specs.declared.Answer.{Answer}
-use Rattle.reply.specs.declared.Answer.the-variants.{Rejected, Written, UpdateComplete, Replied}
-use Rattle.node.specs.Frames.{handler, frameCall, Call, NodeOrder, Answers, Keeps, SmallFrame, FrameChanges}
-use Rattle.node.specs.declared.FrameAnswer.{FrameAnswer}
-use Rattle.node.specs.declared.FrameAnswer.the-variants.{Answered}
+use Rattle.call.specs.FrameCall.{handler, frameCall, Answers, Keeps, SmallFrame, FrameChanges}
+use Rattle.call.specs.declared.FrameAnswer.{FrameAnswer}
+use Rattle.call.proofs.CallLaws.{answer-state, call-passed, event-small, event-changes}
 
--- ---- memory keeps its size
+module _ (x : Fixed) (buffer : List ℕ) (st : State) (c : Contents) (f : CanFrame)
+    (q : isGood (datagramHouse x (c .memory) buffer) ≡ true) {o : Outcome} {before after bytes : List ℕ}
+    (g : Joins (receive (x .alias) st f) (f .payload) o before after bytes) where
+  -- what joining gave, answered
+  pub call-joined : frameCall x buffer st c f ≡ answerEvent B7 (handler x) (receive (x .alias) st f .state) c (eventOf o (f .payload) bytes)
+  unfolding handleFrame
+  call-joined = call-passed x buffer st c f q ∙ ap (answerEvent B7 (handler x) (receive (x .alias) st f .state) c) (sym (g .event))
 
-changes-size : (a : Answer) (old new : List ℕ) → Changes a old new → length new ≡ length old
-changes-size (Rejected code) old new e = ap length e
-changes-size (Written index n) old new w = w .size
-changes-size UpdateComplete old new e = ap length e
-changes-size (Replied n) old new e = ap length e
+  pub call-keeps : Keeps (frameCall x buffer st c f) before after bytes
+  call-keeps =
+      let r = receive (x .alias) st f .state in
+      let s : frameCall x buffer st c f .state ≡ r = ap (λ y. y .state) call-joined ∙ answer-state (handler x) r c (eventOf o (f .payload) bytes) in
+      rw s (record { places = g .places; renewal = g .renewal; pool = g .pool })
 
-handle-keeps : (x : Fixed) (c : Contents) (d : List ℕ) → length (handle x c d .contents .memory) ≡ length (c .memory)
-handle-keeps x c d = changes-size (answerOf (handle x c d .result)) (c .memory) (handle x c d .contents .memory) (handle-bounds x c d .changes)
+  module _ {r : FrameAnswer} {reply stored held : List ℕ}
+      (p : Answers (answerEvent B7 (handler x) (receive (x .alias) st f .state) c (eventOf o (f .payload) bytes)) r buffer reply stored held) where
+    pub call-small : SmallFrame r
+    call-small =
+        event-small x c (receive (x .alias) st f .state) buffer (is-good (datagramHouse x (c .memory) buffer) q) (eventOf o (f .payload) bytes) p
 
--- ---- the frame call
-
--- what joining left of the state is left by the answer too
-answer-state : (h : Contents → List ℕ → Result × Contents) (st : State) (c : Contents) (e : Event) → answerEvent B7 h st c e .state ≡ st
-answer-state h st c ignored = refl
-answer-state h st c noAnswer = refl
-answer-state h st c (refuse code) = refl
-answer-state h st c (finish d) = refl
-answer-state h st c badState = refl
-
--- a finished datagram, handled with a buffer that takes every reply
-pub answers-finish : (x : Fixed) (c : Contents) (d buffer : List ℕ) → 72 ≤ length buffer → {r : Answer} {after stored held : List ℕ} →
-    Performs (handle x c d) r buffer after stored held → (st : State) →
-    Answers (answerEvent B7 (handler x) st c (finish d)) (Answered r) buffer after stored held
-answers-finish x c d buffer h p st =
-    let w = whole (handle x c d .result) buffer (p .short) h in
-    record {
-      answer = ap Answered (p .answer .answer ∙ ap answerOf w);
-      reply = p .answer .buffer ∙ ap (λ y. bufferOf y buffer) w;
-      memory = p .memory;
-      lock = p .lock;
-      short = p .short;
-    }
-
--- the numbers of an answer, and what it says of memory
-
-module _ (x : Fixed) (c : Contents) (st : State) {r : FrameAnswer} {before after stored held : List ℕ} where
-  event-small : (buffer : List ℕ) → datagramHouse x (c .memory) buffer ≡ Good →
-      (e : Event) → Answers (answerEvent B7 (handler x) st c e) r before after stored held → SmallFrame r
-  event-small buffer g ignored p = rw (p .answer) tt
-  event-small buffer g noAnswer p = rw (p .answer) tt
-  event-small buffer g (refuse code) p = rw (p .answer) tt
-  event-small buffer g (finish d) p = rw (p .answer) (answer-small x c d buffer g (p .short))
-  event-small buffer g badState p = rw (p .answer) tt
-
-  event-changes : (e : Event) → Answers (answerEvent B7 (handler x) st c e) r before after stored held → FrameChanges r (c .memory) stored
-  event-changes ignored p = rw (p .answer) (p .memory)
-  event-changes noAnswer p = rw (p .answer) (p .memory)
-  event-changes (refuse code) p = rw (p .answer) (p .memory)
-  event-changes (finish d) p = rw (p .answer, p .memory) (handle-bounds x c d .changes)
-  event-changes badState p = rw (p .answer) (p .memory)
-
-module _ (x : Fixed) (buffer : List ℕ) (st : State) (c : Contents) (f : CanFrame) where
-  pub call-refused : {house : HouseNumber} → house ≡ datagramHouse x (c .memory) buffer → isGood house ≡ false →
-      frameCall x buffer st c f ≡ result st c (houseRefusal house)
-  unfolding frameCall
-  call-refused e q = rw (← e, q)
-
-  call-passed : isGood (datagramHouse x (c .memory) buffer) ≡ true → frameCall x buffer st c f ≡ handleFrame B7 (handler x) (x .alias) st c f
-  unfolding frameCall
-  call-passed q = rw q
-
-  module _ (q : isGood (datagramHouse x (c .memory) buffer) ≡ true) {o : Outcome} {before after bytes : List ℕ}
-      (g : Joins (receive (x .alias) st f) (f .payload) o before after bytes) where
-    -- what joining gave, answered
-    pub call-joined : frameCall x buffer st c f ≡ answerEvent B7 (handler x) (receive (x .alias) st f .state) c (eventOf o (f .payload) bytes)
-    unfolding handleFrame
-    call-joined = call-passed q ∙ ap (answerEvent B7 (handler x) (receive (x .alias) st f .state) c) (sym (g .event))
-
-    pub call-keeps : Keeps (frameCall x buffer st c f) before after bytes
-    call-keeps =
-        let r = receive (x .alias) st f .state in
-        let s : frameCall x buffer st c f .state ≡ r = ap (λ y. y .state) call-joined ∙ answer-state (handler x) r c (eventOf o (f .payload) bytes) in
-        rw s (record { places = g .places; renewal = g .renewal; pool = g .pool })
-
-    module _ {r : FrameAnswer} {reply stored held : List ℕ}
-        (p : Answers (answerEvent B7 (handler x) (receive (x .alias) st f .state) c (eventOf o (f .payload) bytes)) r buffer reply stored held) where
-      pub call-small : SmallFrame r
-      call-small =
-          event-small x c (receive (x .alias) st f .state) buffer (is-good (datagramHouse x (c .memory) buffer) q) (eventOf o (f .payload) bytes) p
-
-      pub call-changes : FrameChanges r (c .memory) stored
-      call-changes = event-changes x c (receive (x .alias) st f .state) (eventOf o (f .payload) bytes) p
+    pub call-changes : FrameChanges r (c .memory) stored
+    call-changes = event-changes x c (receive (x .alias) st f .state) (eventOf o (f .payload) bytes) p
 
 pub inside-at : (o : Outcome) (from end : ℕ) → o ≡ outcome.InPool from end → InsidePool o → (from ≤ end) × (end ≤ 576)
 inside-at o from end e i = rw e at i
-
--- ---- demand 3
-
-house-good : (x : Fixed) (memory buffer : List ℕ) → descriptionHouse (x .alias) (x .spaces) (length (x .flash)) (length memory) ≡ Good → 72 ≤ length buffer →
-    isGood (datagramHouse x memory buffer) ≡ true
-unfolding datagramHouse
-house-good x memory buffer g h = rw (g, le-ltb (length buffer) 72 h)
-
-pub node-order : (x : Fixed) → NodeOrder x
-node-order x m g =
-    order (λ k. k .frame) (λ k. 72 ≤ length (k .buffer)) (λ c. length (c .memory) ≡ m) B7 (handler x)
-    (λ c d e. handle-keeps x c d ∙ e) (x .alias)
-    (λ st c k. frameCall x (k .buffer) st c (k .frame))
-    (λ st c k e h. call-passed x (k .buffer) st c (k .frame) (house-good x (c .memory) (k .buffer) (rw e g) h))

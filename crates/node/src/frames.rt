@@ -1,5 +1,5 @@
 // What a joined frame brings about, answered.
-use crate::FrameAnswer;
+use call::FrameAnswer;
 use house::HouseNumber;
 use joining::Outcome;
 ghost use mathlib.Core.Path.{_≡_};
@@ -11,7 +11,7 @@ ghost use Rattle.reception.specs.Reception.{State};
 ghost use Rattle.reception.specs.Order.{answerEvent};
 ghost use Rattle.joining.specs.Joins.{eventOf, InsidePool};
 ghost use Rattle.handler.specs.Handling.{fixed, contents};
-ghost use Rattle.node.specs.Frames.{handler, Answers};
+ghost use Rattle.call.specs.FrameCall.{handler, Answers};
 
 // A finished datagram, handled whole.
 fn answer_datagram(

@@ -1,6 +1,5 @@
 // The board's side of memory configuration: a frame, from the caller to its answer, its reply and what it leaves.
-use house::HouseNumber;
-use reply::Answer;
+use call::FrameAnswer;
 
 mod frames;
 
@@ -8,17 +7,7 @@ ghost use Rattle.board.specs.Table.{spacesIn};
 ghost use Rattle.frame.specs.Frame.{canFrame};
 ghost use Rattle.reception.specs.PlaceBytes.{stateIn};
 ghost use Rattle.handler.specs.Handling.{fixed, contents};
-ghost use Rattle.node.specs.Frames.{frameCall, Answers, Keeps, SmallFrame, FrameChanges, NodeOrder};
-
-// What comes of a frame: a house number; an ignored frame; a frame that is joined and not answered; a transport refusal, sent as
-// Rejected with its code; or the answer to the datagram that the frame finishes.
-pub enum FrameAnswer {
-    Refused(HouseNumber),
-    Ignored,
-    Nothing,
-    TransportRefusal(u16),
-    Answered(Answer),
-}
+ghost use Rattle.call.specs.FrameCall.{frameCall, Answers, Keeps, SmallFrame, FrameChanges, NodeOrder};
 
 // Handles a frame from the bus. The bytes of unfinished datagrams are in the pool, 72 for each place.
 pub fn handle_frame(

@@ -12,8 +12,8 @@ use Rattle.fields.specs.declared.Form.{Form}
 use Rattle.lock.specs.Lock.{testAndSet}
 use Rattle.reply.specs.Replies.{lockReply}
 use Rattle.inquiry.specs.Inquiry.{optionsReply, informationReply}
-use Rattle.reply.specs.Answers.{Result, updateCompleted, receivedOkReply, Agrees}
-use Rattle.reply.specs.declared.Answer.{Answer}
+use Rattle.answer.specs.Answers.{Result, updateCompleted, receivedOkReply, Agrees}
+use Rattle.answer.specs.declared.Answer.{Answer}
 use Rattle.reach.specs.Reach.{access}
 use Rattle.storing.specs.Storing.{storeBytes, storeMasked}
 use Rattle.access.specs.Access.{readResult, writeResult, memoryAfter}

@@ -1,13 +1,13 @@
 // A request performed: each command by the crate that knows it.
+use answer::Answer;
 use command::Command;
 use fields::Form;
-use reply::Answer;
 ghost use mathlib.Core.Path.{_≡_};
 ghost use lib.ListN.{length};
 ghost use Rattle.board.specs.Table.{spacesIn};
 ghost use Rattle.fields.specs.Commands.{restOf};
 ghost use Rattle.reply.specs.Replies.{lockReply};
-ghost use Rattle.reply.specs.Answers.{receivedOkReply, Agrees};
+ghost use Rattle.answer.specs.Answers.{receivedOkReply, Agrees};
 ghost use Rattle.command.specs.Decoding.{requestOf};
 ghost use Rattle.performing.specs.Performing.{fixed, contents, Performed};
 ghost use Rattle.lock.specs.Lock.{testAndSet};

@@ -2,11 +2,11 @@
 use Prim.Native.Nat.{ℕ, zero, suc, _+_}
 use mathlib.Core.Bool.{cond}
 use mathlib.Core.List.{List, [], _∷_, _++_}
-use lib.Dec.{leb}
 use lib.ListN.{length, getD}
 use Rattle.buffer.specs.BigEndian.{numberOf}
 use Rattle.frame.specs.declared.Frame.{Frame}
 use Rattle.gridconnect.specs.Line.{frameText}
+use Rattle.room.specs.Room.{hasRoom}
 
 -- The frame in 16 bytes from an index on: its header and the number of its data bytes, each least significant byte first, and its eight bytes
 -- (layout: Layout).
@@ -27,6 +27,6 @@ unfoldable pub framesText : List Frame → List ℕ
 framesText [] = []
 framesText (f ∷ fs) = frameText f ++ framesText fs
 
--- What is printed from an index of a buffer on: the text where there is room for ten lines of the longest, 29 bytes each, and else nothing.
+-- What is printed from an index of a buffer on: the text where there is room for ten lines of the longest, and else nothing.
 abbrev pub whenRoom : ℕ → List ℕ → List ℕ → List ℕ
-whenRoom at buffer text = cond (leb (at + 290) (length buffer)) text []
+whenRoom at buffer text = cond (hasRoom at (length buffer)) text []

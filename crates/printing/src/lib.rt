@@ -8,9 +8,6 @@ ghost use Rattle.buffer.specs.BigEndian.{numberOf};
 ghost use Rattle.gridconnect.specs.Line.{Printed};
 ghost use Rattle.printing.specs.Printing.{frameAt, framesFrom, framesText, whenRoom};
 
-// The longest that the frames of one answer are printed as: a transport reply and nine frames, lines of at most 29 bytes.
-pub const LONGEST: usize = 290;
-
 // The number in four bytes from an index on, least significant first.
 fn number_at(frames: &[u8; 160], at: usize) -> u32
     requires { ⌜ at + 3 < 160 ⌝ }
@@ -79,11 +76,7 @@ fn at_most_ten(count: usize) -> usize
 pub fn print_frames(frames: &[u8; 160], count: usize, out: &mut [u8], at: usize) -> usize
     ensures { λ r. ⌜ Printed at (whenRoom at (now (out .entry)) (framesText (framesFrom (now (frames .entry)) 0 (min count 10)))) (now (out .entry)) r (now (out .exit)) ⌝ }
 {
-    let size = out.len();
-    if size < LONGEST {
-        return at;
-    }
-    if size - LONGEST < at {
+    if !room::has_room(at, out.len()) {
         return at;
     }
     print_some(frames, at_most_ten(count), out, at)

@@ -1,27 +1,41 @@
-// The replies of document 01, written into the lent buffer: the whole reply, or nothing where the buffer has no room for it.
+// The replies to reads, writes and the lock, written into the lent buffer: the whole reply, or nothing where the buffer has no room for it.
+use answer::Answer;
 use fields::Form;
-
-mod head;
-
 ghost use mathlib.Core.Path.{_≡_};
+ghost use mathlib.Core.List.{_++_};
+ghost use Prim.Native.Nat.{_+_, _≤_, _<_};
 ghost use lib.ListN.{length};
+ghost use Rattle.answer.specs.Answers.{receivedOkReply, Agrees};
+ghost use Rattle.fields.specs.Commands.{formBits};
+ghost use Rattle.head.specs.Head.{replyHead};
 ghost use Rattle.reply.specs.Replies.{readReply, failedRead, failedWrite, lockReply};
-ghost use Rattle.reply.specs.Answers.{receivedOkReply, Agrees};
 
-// The answer to a datagram: Rejected with a code; Received OK 0x00 to a write, which changed so many bytes of memory from an index on;
-// Received OK 0x00 to Update Complete; or Received OK 0x80 and a reply of that many bytes in the buffer.
-pub enum Answer {
-    Rejected(u16),
-    Written(usize, usize),
-    UpdateComplete,
-    Replied(usize),
+// The low two bits of the request's command.
+fn form_bits(form: Form) -> u8
+    ensures { λ r. ⌜ (r ≡ formBits form) × (r ≤ 3) ⌝ }
+{
+    match form {
+        Form::NoSpace => 0,
+        Form::Byte6 => 0,
+        Form::Fd => 1,
+        Form::Fe => 2,
+        Form::Ff => 3,
+    }
+}
+
+// Writes a reply whose command has the low two bits of the request's.
+fn send(reply: &mut [u8], command: u8, form: Form, space: u8, address: u32, src: &[u8]) -> Answer
+    requires { ⌜ command < 0xF0 ⌝ }
+    ensures { λ r. ⌜ Agrees (receivedOkReply (replyHead (command + formBits form) form space address ++ now (src .entry))) r (now (reply .entry)) (now (reply .exit)) ⌝ }
+{
+    head::send(reply, command + form_bits(form), form, space, address, src)
 }
 
 // The reply to a read: the bytes read.
 pub fn read(reply: &mut [u8], form: Form, space: u8, address: u32, bytes: &[u8]) -> Answer
     ensures { λ r. ⌜ Agrees (receivedOkReply (readReply form space address (now (bytes .entry)))) r (now (reply .entry)) (now (reply .exit)) ⌝ }
 {
-    head::send(reply, 0x50, form, space, address, bytes)
+    send(reply, 0x50, form, space, address, bytes)
 }
 
 // The reply to a read that failed.
@@ -29,7 +43,7 @@ pub fn failed_read(reply: &mut [u8], form: Form, space: u8, address: u32, code: 
     ensures { λ r. ⌜ Agrees (receivedOkReply (failedRead form space address code)) r (now (reply .entry)) (now (reply .exit)) ⌝ }
 {
     let bytes = [(code / 256) as u8, (code % 256) as u8];
-    head::send(reply, 0x58, form, space, address, &bytes)
+    send(reply, 0x58, form, space, address, &bytes)
 }
 
 // The reply to a write or a masked write that failed.
@@ -37,18 +51,7 @@ pub fn failed_write(reply: &mut [u8], form: Form, space: u8, address: u32, code:
     ensures { λ r. ⌜ Agrees (receivedOkReply (failedWrite form space address code)) r (now (reply .entry)) (now (reply .exit)) ⌝ }
 {
     let bytes = [(code / 256) as u8, (code % 256) as u8];
-    head::send(reply, 0x18, form, space, address, &bytes)
-}
-
-// A reply of these bytes, and no other.
-pub fn whole(reply: &mut [u8], bytes: &[u8]) -> Answer
-    ensures { λ r. ⌜ Agrees (receivedOkReply (now (bytes .entry))) r (now (reply .entry)) (now (reply .exit)) ⌝ }
-{
-    if reply.len() < bytes.len() {
-        return Answer::Replied(0);
-    }
-    buffer::put(reply, 0, bytes);
-    Answer::Replied(bytes.len())
+    send(reply, 0x18, form, space, address, &bytes)
 }
 
 // 0x88: the lock memory, which has six bytes.
@@ -66,5 +69,5 @@ pub fn lock(reply: &mut [u8], held: [u8; 6]) -> Answer
         held[4],
         held[5],
     ];
-    whole(reply, &bytes)
+    answer::whole(reply, &bytes)
 }

@@ -7,15 +7,15 @@ use native.Mathlib.Omega.{arith}
 use lib.ListN.{length, take, drop}
 use Rattle.storing.specs.Storing.{OnlyWithin}
 use Rattle.access.specs.Access.{Changes}
-use Rattle.reply.specs.Answers.{SmallAnswer}
-use Rattle.reply.specs.declared.Answer.{Answer}
-use Rattle.reply.specs.declared.Answer.the-variants as answer
+use Rattle.answer.specs.Answers.{SmallAnswer}
+use Rattle.answer.specs.declared.Answer.{Answer}
+use Rattle.answer.specs.declared.Answer.the-variants as answer
 use Rattle.datagram.specs.Datagram.{SmallHandled, HandledChanges}
 use Rattle.datagram.specs.declared.Handled.{Handled}
 use Rattle.datagram.specs.declared.Handled.the-variants as handled
-use Rattle.node.specs.Frames.{SmallFrame, FrameChanges}
-use Rattle.node.specs.declared.FrameAnswer.{FrameAnswer}
-use Rattle.node.specs.declared.FrameAnswer.the-variants as frame
+use Rattle.call.specs.FrameCall.{SmallFrame, FrameChanges}
+use Rattle.call.specs.declared.FrameAnswer.{FrameAnswer}
+use Rattle.call.specs.declared.FrameAnswer.the-variants as frame
 use Rattle.result.specs.Result.{numbers, answerResult, handledResult, frameResult, inBytes}
 use Rattle.result.specs.declared.CallResult.{CallResult}
 

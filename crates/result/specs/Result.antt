@@ -1,12 +1,12 @@
 -- What comes of a call as numbers, for a caller in C.
 use Prim.Native.Nat.{ℕ, _/_, _%_, min}
 use Rattle.house.specs.HouseNumbers.{houseNumberOf}
-use Rattle.reply.specs.declared.Answer.{Answer}
-use Rattle.reply.specs.declared.Answer.the-variants as answer
+use Rattle.answer.specs.declared.Answer.{Answer}
+use Rattle.answer.specs.declared.Answer.the-variants as answer
 use Rattle.datagram.specs.declared.Handled.{Handled}
 use Rattle.datagram.specs.declared.Handled.the-variants as handled
-use Rattle.node.specs.declared.FrameAnswer.{FrameAnswer}
-use Rattle.node.specs.declared.FrameAnswer.the-variants as frame
+use Rattle.call.specs.declared.FrameAnswer.{FrameAnswer}
+use Rattle.call.specs.declared.FrameAnswer.the-variants as frame
 use Rattle.result.specs.declared.CallResult.{CallResult}
 use Rattle.result.specs.declared.Words.{Words}
 

@@ -1,8 +1,8 @@
 // What comes of a call as numbers, for a caller in C.
+use answer::Answer;
+use call::FrameAnswer;
 use datagram::Handled;
 use house::HouseNumber;
-use node::FrameAnswer;
-use reply::Answer;
 ghost use mathlib.Core.Path.{_≡_};
 ghost use Prim.Native.Nat.{min};
 ghost use Rattle.house.specs.HouseNumbers.{houseNumberOf};

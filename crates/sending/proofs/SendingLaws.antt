@@ -21,13 +21,13 @@ use Rattle.reception.specs.Order.{houseRefusal, ignoredFrame, nothing, transpor
 use Rattle.fragments.specs.Cutting.{aliases, framesOf, cutFrames}
 use Rattle.transport.specs.Transport.{receivedOk, rejectedWith, transportReply}
 use Rattle.fragments.proofs.CutLaws.{frames-few}
-use Rattle.reply.specs.Answers.{Result, datagramRejected, written, updateCompleted, receivedOkReply}
-use Rattle.reply.specs.declared.Answer.{Answer}
-use Rattle.reply.specs.declared.Answer.the-variants.{Rejected, Written, UpdateComplete, Replied}
+use Rattle.answer.specs.Answers.{Result, datagramRejected, written, updateCompleted, receivedOkReply}
+use Rattle.answer.specs.declared.Answer.{Answer}
+use Rattle.answer.specs.declared.Answer.the-variants.{Rejected, Written, UpdateComplete, Replied}
 use Rattle.handler.specs.Handling.{Fixed, Contents}
-use Rattle.node.specs.Frames.{frameCall, Call, frameAnswerOf, frameBufferOf}
-use Rattle.node.specs.declared.FrameAnswer.{FrameAnswer}
-use Rattle.node.proofs.FrameLaws.{node-order}
+use Rattle.call.specs.FrameCall.{frameCall, Call, frameAnswerOf, frameBufferOf}
+use Rattle.call.specs.declared.FrameAnswer.{FrameAnswer}
+use Rattle.call.proofs.CallLaws.{node-order}
 use Rattle.sending.specs.Sending.{answerFrames, framesToSend, sentFor, sentInCalls, sentTo, Made, BusOrder}
 
 -- ---- how many

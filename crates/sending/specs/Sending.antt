@@ -16,13 +16,13 @@ use Rattle.reception.specs.Order as order
 use Rattle.reception.specs.Order.{FrameResult, houseRefusal, ignoredFrame, nothing, transportRefusal, handled, eventsOf, answersTo, Fresh, AtMostEight, Each}
 use Rattle.fragments.specs.Cutting.{cutFrames}
 use Rattle.transport.specs.Transport.{receivedOk, rejectedWith}
-use Rattle.reply.specs.Answers.{Result, datagramRejected, written, updateCompleted, receivedOkReply, Transport, okFlags, rejectedCode, transportOf}
-use Rattle.reply.specs.declared.Answer.{Answer}
-use Rattle.reply.specs.declared.Answer.the-variants.{Rejected, Written, UpdateComplete, Replied}
+use Rattle.answer.specs.Answers.{Result, datagramRejected, written, updateCompleted, receivedOkReply, Transport, okFlags, rejectedCode, transportOf}
+use Rattle.answer.specs.declared.Answer.{Answer}
+use Rattle.answer.specs.declared.Answer.the-variants.{Rejected, Written, UpdateComplete, Replied}
 use Rattle.handler.specs.Handling.{Fixed, Contents}
-use Rattle.node.specs.Frames.{handler, frameCall, Call, frameAnswerOf}
-use Rattle.node.specs.declared.FrameAnswer.{FrameAnswer}
-use Rattle.node.specs.declared.FrameAnswer.the-variants.{Refused, Ignored, Nothing, TransportRefusal, Answered}
+use Rattle.call.specs.FrameCall.{handler, frameCall, Call, frameAnswerOf}
+use Rattle.call.specs.declared.FrameAnswer.{FrameAnswer}
+use Rattle.call.specs.declared.FrameAnswer.the-variants.{Refused, Ignored, Nothing, TransportRefusal, Answered}
 
 -- ---- the frames of an answer
 

@@ -1,6 +1,6 @@
 // What the board sends: the frames of an answer.
-use node::FrameAnswer;
-use reply::Answer;
+use answer::Answer;
+use call::FrameAnswer;
 ghost use Rattle.sending.specs.Sending.{answerFrames, framesToSend, Made};
 
 // The answer to a datagram: the transport reply, and behind it the frames of a reply.

@@ -1,1 +1,3 @@
+pub mod FullLaws
 pub mod SessionLaws
+pub mod TurnLaws

@@ -1,18 +1,14 @@
 -- A session's text: the lines of an input, answered one after the other, however the input is cut into chunks.
-use Prim.Native.Nat.{ℕ, _≤_, _<_}
+use Prim.Native.Nat.{ℕ}
 use mathlib.Core.Path.{_≡_}
-use mathlib.Core.Bool.{cond}
 use mathlib.Core.List.{List, [], _∷_, _++_, map, flatten}
-use lib.Dec.{leb}
-use lib.ListN.{length, take, drop}
 use Rattle.reception.specs.Reception.{State}
 use Rattle.handler.specs.Handling.{Fixed, Contents}
 use Rattle.parsing.specs.Parsing.{parseOf}
 use Rattle.parsing.specs.declared.Parsed.{Parsed}
-use Rattle.turn.specs.Turn.{Turn, turn, answerLine}
 use Rattle.input.specs.Input.{linesOf, readFrom, carryAfter, carryOf, lastOf, given}
 use Rattle.input.specs.declared.Carry.{Carry}
-use Rattle.session.specs.declared.Progress.{Progress}
+use Rattle.session.specs.Turn.{Turn, turn, answerLine}
 
 -- ---- lines
 
@@ -42,24 +38,3 @@ sessionInChunks x st c carry (chunk ∷ more) =
 -- How the input is cut plays no part.
 abbrev pub AnyChunks : Fixed → Type 0
 AnyChunks x = (st : State) (c : Contents) (chunks : List (List ℕ)) → sessionInChunks x st c (carryOf []) chunks ≡ session x st c (flatten chunks)
-
--- ---- what the code gives back
-
--- A chunk answered from an index on behind a carry, as far as the buffer has room. The buffer was `before` and is `after`; c' and st' are
--- what is left.
-pub record Answered (x : Fixed) (st : State) (c : Contents) (begun : Carry) (chunk : List ℕ) (from : ℕ) (r : Progress) (before after : List ℕ) (c' : Contents) (st' : State) : Type 0 where
-  -- What the lines are answered with is the text in front of the buffer, and then what the lines that are left are answered with.
-  pub text :
-      answerLines x st c (readFrom begun (drop from chunk))
-      ≡ behind (take (r .end) after) (answerLines x st' c' (readFrom (r .carry) (drop (r .at) chunk)))
-  pub carry : carryAfter begun (drop from chunk) ≡ carryAfter (r .carry) (drop (r .at) chunk)
-  -- Behind the text the buffer is as it was.
-  pub end : r .end ≤ length before
-  pub size : length after ≡ length before
-  pub rest : drop (r .end) after ≡ drop (r .end) before
-  -- Where the buffer has room for the longest answer to a line, 290 bytes, the chunk is answered by a line at least, or to its end.
-  pub onward : from < length chunk → 290 ≤ length before → from < r .at
-
--- The line that the end of the input completes: answered where the buffer has room for the longest answer.
-abbrev pub atEnd : Carry → List ℕ → List Parsed
-atEnd carry buffer = cond (leb 290 (length buffer)) (given (lastOf carry)) []

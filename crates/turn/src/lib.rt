@@ -1,10 +1,9 @@
 // A line answered: its frame is handled, and what the board sends is printed.
 use parsing::Parsed;
-use printing::LONGEST;
 ghost use Rattle.board.specs.Table.{spacesIn};
 ghost use Rattle.reception.specs.PlaceBytes.{stateIn};
 ghost use Rattle.handler.specs.Handling.{fixed, contents};
-ghost use Rattle.turn.specs.Turn.{answerWithRoom, Prints};
+ghost use Rattle.session.specs.Turn.{answerWithRoom, Prints};
 
 // A line that was read: its frame is handled and what the board sends is printed into `out` from index `at` on, or `?`. Returns the index past the
 // text. Where `out` has no room for the longest answer, the line is not answered.
@@ -23,10 +22,7 @@ pub fn answer_line(
 ) -> usize
     ensures { λ r. ⌜ Prints (answerWithRoom (fixed alias «write_lengths» (spacesIn (now (spaces .entry))) (now (flash .entry))) (stateIn (now (places .entry)) (now (pool .entry))) (contents (now (memory .entry)) (now (lock .entry))) parsed at (now (out .entry))) at (now (out .entry)) r (now (out .exit)) (contents (now (memory .exit)) (now (lock .exit))) (stateIn (now (places .exit)) (now (pool .exit))) ⌝ }
 {
-    if out.len() < LONGEST {
-        return at;
-    }
-    if out.len() - LONGEST < at {
+    if !room::has_room(at, out.len()) {
         return at;
     }
     if !parsed.good {

@@ -2,10 +2,10 @@
 // memory that changed, and the lock memory afterwards. The datagrams are lines of hexadecimal digits on standard input. A line that starts
 // with `#` is printed again; `@` and a digit says how many of the board's spaces are described from there on, `@L` that the lock is held
 // before each datagram, and `@U` that it is free.
+use answer::Answer;
 use datagram::Handled;
 use libc::STDIN_FILENO;
 use libc::STDOUT_FILENO;
-use reply::Answer;
 
 // The reply buffer is filled with this before each call, so that a byte past the reply that changed is seen.
 const FILL: u8 = 0xEE;

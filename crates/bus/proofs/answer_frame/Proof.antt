@@ -4,7 +4,7 @@ use Rattle.board.specs.Table.{spacesIn}
 use Rattle.frame.specs.Frame.{canFrame, sourceOf}
 use Rattle.reception.specs.PlaceBytes.{stateIn}
 use Rattle.handler.specs.Handling.{fixed, contents}
-use Rattle.node.specs.Frames.{frameCall}
+use Rattle.call.specs.FrameCall.{frameCall}
 use Rattle.sending.proofs.SendingLaws.{sent-is, bus-order}
 use borrow.Author.Needs.{needs}
 use Rattle.bus.proofs.answer_frame.Statement.{statement}

@@ -10,7 +10,8 @@ use Rattle.reception.specs.PlaceBytes.{stateIn}
 use Rattle.reception.proofs.ByteLaws.{renewed-same}
 use Rattle.handler.specs.Handling.{fixed, contents}
 use Rattle.datagram.proofs.Laws.{by-sizes, house-buffer}
-use Rattle.node.proofs.FrameLaws.{call-refused, call-joined, call-keeps, call-small, call-changes, node-order}
+use Rattle.call.proofs.CallLaws.{call-refused, node-order}
+use Rattle.node.proofs.FrameLaws.{call-joined, call-keeps, call-small, call-changes}
 use borrow.Author.Needs.{needs}
 use Rattle.node.proofs.handle_frame.Statement.{statement}
 use Rattle.node.proofs.handle_frame.Tie as tie

@@ -3,24 +3,35 @@
 use Prim.Native.Nat.{min}
 use mathlib.Core.Path.{_≡_}
 use native.Mathlib.Omega.{arith}
+use lib.ListN.{length}
 use borrow.Author.Needs.{needs}
+use Rattle.room.proofs.RoomLaws.{room-none, room-there}
 use Rattle.printing.specs.Printing.{framesFrom, framesText}
 use Rattle.printing.proofs.PrintingLaws.{some-short, no-room, with-room}
 use Rattle.printing.proofs.print_frames.Statement.{statement}
 use Rattle.printing.proofs.print_frames.Tie as tie
 
 returns : tie.Need-returns
-returns c = let a = c .before .before .args in no-room (a .at) (framesText (framesFrom (a .frames .now) 0 (min (a .count) 10))) (a .out .now) (omega arith)
+returns c =
+    let a = c .before .before .before .args in
+    no-room (a .at) (framesText (framesFrom (a .frames .now) 0 (min (a .count) 10))) (a .out .now) (room-none (a .at) (length (a .out .now)) (c .before .has-room .ensures) (c .if1 .taken))
+
+print-some-requires : tie.Need-print-some-requires
+print-some-requires c κs =
+    let t = c .before .before .before in
+    let a = t .before .before .args in
+    let h = room-there (a .at) (length (a .out .now)) (t .has-room .ensures) (c .before .before .if1 .left) in
+    let n = c .before .at-most-ten .ensures in
+    omega arith
 
 returns-2 : tie.Need-returns-2
-returns-2 c = let a = c .before .before .before .args in no-room (a .at) (framesText (framesFrom (a .frames .now) 0 (min (a .count) 10))) (a .out .now) (omega arith)
-
-returns-3 : tie.Need-returns-3
-returns-3 c =
-    let a = c .before .before .before .before .before .before .before .before .args in
+returns-2 c =
+    let t = c .before .before .before .before .before .before in
+    let a = t .before .before .args in
     let n = c .before .before .before .before .at-most-ten in
     let s = some-short (a .frames .now) 0 (n .result) in
-    rw (← n .ensures) (with-room (a .at) (framesText (framesFrom (a .frames .now) 0 (n .result))) (a .out .now) (omega arith) (omega arith) (c .before .before .print-some .ensures))
+    let h = room-there (a .at) (length (a .out .now)) (t .has-room .ensures) (c .before .before .before .before .before .if1 .left) in
+    rw (← n .ensures) (with-room (a .at) (framesText (framesFrom (a .frames .now) 0 (n .result))) (a .out .now) h (let m = n .ensures in omega arith) (c .before .before .print-some .ensures))
 
 pub print-frames-spec : {M : Type 1} → statement M
-print-frames-spec = tie.close (tie.spec returns returns-2 (λ c κs. search needs) (λ c κs. search needs) (λ c. search needs) returns-3)
+print-frames-spec = tie.close (tie.spec (λ c κs. search needs) returns (λ c κs. search needs) print-some-requires (λ c. search needs) returns-2)

@@ -2,7 +2,7 @@
 -- Assumes nothing.
 use Rattle.board.specs.Table.{spacesIn}
 use Rattle.handler.specs.Handling.{fixed, contents}
-use Rattle.node.proofs.FrameLaws.{answers-finish}
+use Rattle.call.proofs.CallLaws.{answers-finish}
 use borrow.Author.Needs.{needs}
 use Rattle.node.proofs.frames.answer_datagram.Statement.{statement}
 use Rattle.node.proofs.frames.answer_datagram.Tie as tie

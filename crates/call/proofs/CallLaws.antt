@@ -1,0 +1,104 @@
+-- Laws of the frame call, and demand 3 of it.
+-- Assumes nothing.
+use Prim.Native.Nat.{ℕ, _≤_}
+use mathlib.Core.Path.{_≡_, refl, ap, _∙_}
+use mathlib.Core.Bool.{true, false}
+use mathlib.Core.List.{List}
+use lib.ListN.{length}
+use borrow.Author.Tests.{le-ltb}
+use Rattle.house.specs.HouseNumbers.{isGood, descriptionHouse}
+use Rattle.house.specs.declared.HouseNumber.{HouseNumber}
+use Rattle.house.specs.declared.HouseNumber.the-variants.{Good, B7}
+use Rattle.frame.specs.Frame.{CanFrame}
+use Rattle.reception.specs.Reception.{State}
+use Rattle.reception.specs.Order.{result, houseRefusal, answerEvent, handleFrame}
+use Rattle.reception.specs.Books.{Event, ignored, noAnswer, refuse, finish, badState}
+use Rattle.reception.proofs.Order.{order}
+use Rattle.access.specs.Access.{Changes}
+use Rattle.handler.specs.Handling.{Fixed, Contents, handle, Performs}
+use Rattle.handler.proofs.Laws.{whole, handle-bounds}
+use Rattle.datagram.specs.Datagram.{datagramHouse}
+use Rattle.datagram.proofs.Laws.{answer-small}
+use Rattle.answer.specs.Answers.{Result, answerOf, bufferOf}
+use Rattle.answer.specs.declared.Answer.{Answer}
+use Rattle.answer.specs.declared.Answer.the-variants.{Rejected, Written, UpdateComplete, Replied}
+use Rattle.call.specs.FrameCall.{handler, frameCall, NodeOrder, Answers, SmallFrame, FrameChanges}
+use Rattle.call.specs.declared.FrameAnswer.{FrameAnswer}
+use Rattle.call.specs.declared.FrameAnswer.the-variants.{Answered}
+
+-- ---- memory keeps its size
+
+changes-size : (a : Answer) (old new : List ℕ) → Changes a old new → length new ≡ length old
+changes-size (Rejected code) old new e = ap length e
+changes-size (Written index n) old new w = w .size
+changes-size UpdateComplete old new e = ap length e
+changes-size (Replied n) old new e = ap length e
+
+handle-keeps : (x : Fixed) (c : Contents) (d : List ℕ) → length (handle x c d .contents .memory) ≡ length (c .memory)
+handle-keeps x c d = changes-size (answerOf (handle x c d .result)) (c .memory) (handle x c d .contents .memory) (handle-bounds x c d .changes)
+
+-- ---- the frame call
+
+-- what joining left of the state is left by the answer too
+pub answer-state : (h : Contents → List ℕ → Result × Contents) (st : State) (c : Contents) (e : Event) → answerEvent B7 h st c e .state ≡ st
+answer-state h st c ignored = refl
+answer-state h st c noAnswer = refl
+answer-state h st c (refuse code) = refl
+answer-state h st c (finish d) = refl
+answer-state h st c badState = refl
+
+-- a finished datagram, handled with a buffer that takes every reply
+pub answers-finish : (x : Fixed) (c : Contents) (d buffer : List ℕ) → 72 ≤ length buffer → {r : Answer} {after stored held : List ℕ} →
+    Performs (handle x c d) r buffer after stored held → (st : State) →
+    Answers (answerEvent B7 (handler x) st c (finish d)) (Answered r) buffer after stored held
+answers-finish x c d buffer h p st =
+    let w = whole (handle x c d .result) buffer (p .short) h in
+    record {
+      answer = ap Answered (p .answer .answer ∙ ap answerOf w);
+      reply = p .answer .buffer ∙ ap (λ y. bufferOf y buffer) w;
+      memory = p .memory;
+      lock = p .lock;
+      short = p .short;
+    }
+
+-- the numbers of an answer, and what it says of memory
+
+module _ (x : Fixed) (c : Contents) (st : State) {r : FrameAnswer} {before after stored held : List ℕ} where
+  pub event-small : (buffer : List ℕ) → datagramHouse x (c .memory) buffer ≡ Good →
+      (e : Event) → Answers (answerEvent B7 (handler x) st c e) r before after stored held → SmallFrame r
+  event-small buffer g ignored p = rw (p .answer) tt
+  event-small buffer g noAnswer p = rw (p .answer) tt
+  event-small buffer g (refuse code) p = rw (p .answer) tt
+  event-small buffer g (finish d) p = rw (p .answer) (answer-small x c d buffer g (p .short))
+  event-small buffer g badState p = rw (p .answer) tt
+
+  pub event-changes : (e : Event) → Answers (answerEvent B7 (handler x) st c e) r before after stored held → FrameChanges r (c .memory) stored
+  event-changes ignored p = rw (p .answer) (p .memory)
+  event-changes noAnswer p = rw (p .answer) (p .memory)
+  event-changes (refuse code) p = rw (p .answer) (p .memory)
+  event-changes (finish d) p = rw (p .answer, p .memory) (handle-bounds x c d .changes)
+  event-changes badState p = rw (p .answer) (p .memory)
+
+module _ (x : Fixed) (buffer : List ℕ) (st : State) (c : Contents) (f : CanFrame) where
+  pub call-refused : {house : HouseNumber} → house ≡ datagramHouse x (c .memory) buffer → isGood house ≡ false →
+      frameCall x buffer st c f ≡ result st c (houseRefusal house)
+  unfolding frameCall
+  call-refused e q = rw (← e, q)
+
+  pub call-passed : isGood (datagramHouse x (c .memory) buffer) ≡ true → frameCall x buffer st c f ≡ handleFrame B7 (handler x) (x .alias) st c f
+  unfolding frameCall
+  call-passed q = rw q
+
+-- ---- demand 3
+
+house-good : (x : Fixed) (memory buffer : List ℕ) → descriptionHouse (x .alias) (x .spaces) (length (x .flash)) (length memory) ≡ Good → 72 ≤ length buffer →
+    isGood (datagramHouse x memory buffer) ≡ true
+unfolding datagramHouse
+house-good x memory buffer g h = rw (g, le-ltb (length buffer) 72 h)
+
+pub node-order : (x : Fixed) → NodeOrder x
+node-order x m g =
+    order (λ k. k .frame) (λ k. 72 ≤ length (k .buffer)) (λ c. length (c .memory) ≡ m) B7 (handler x)
+    (λ c d e. handle-keeps x c d ∙ e) (x .alias)
+    (λ st c k. frameCall x (k .buffer) st c (k .frame))
+    (λ st c k e h. call-passed x (k .buffer) st c (k .frame) (house-good x (c .memory) (k .buffer) (rw e g) h))

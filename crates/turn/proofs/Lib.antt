@@ -1,2 +1,0 @@
-pub mod FullLaws
-pub mod TurnLaws
