@@ -3,7 +3,7 @@
 use Prim.Native.Nat.{ℕ}
 use mathlib.Core.Path.{_≡_, refl, ap, _∙_}
 use mathlib.Core.List.{List}
-use Rattle.board.specs.declared.Space.{Space}
+use Rattle.table.specs.declared.Space.{Space}
 use Rattle.fields.specs.declared.Form.{Form}
 use Rattle.reply.specs.Replies.{readReply, failedRead, failedWrite}
 use Rattle.answer.specs.Answers.{receivedOkReply, answerOf, Agrees}

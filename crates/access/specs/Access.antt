@@ -4,7 +4,7 @@ use mathlib.Core.Path.{_≡_}
 use mathlib.Core.List.{List}
 use lib.ListN.{take, drop}
 use Rattle.board.specs.Description.{windowOf}
-use Rattle.board.specs.declared.Space.{Space}
+use Rattle.table.specs.declared.Space.{Space}
 use Rattle.fields.specs.declared.Form.{Form}
 use Rattle.reply.specs.Replies.{readReply, failedRead, failedWrite}
 use Rattle.answer.specs.Answers.{Result, written, receivedOkReply, Agrees}

@@ -1,14 +1,14 @@
 // Reads, writes and masked writes of a space.
 use answer::Answer;
-use board::Space;
 use fields::Form;
 use reach::Access;
+use table::Space;
 ghost use mathlib.Core.Path.{_≡_};
 ghost use mathlib.Core.Bool.{true, false};
 ghost use Prim.Native.Nat.{_≤_, _/_};
 ghost use lib.ListN.{length};
 ghost use Rattle.board.specs.Description.{findSpace};
-ghost use Rattle.board.specs.Table.{spacesIn};
+ghost use Rattle.table.specs.Table.{spacesIn};
 ghost use Rattle.fields.specs.Commands.{pairsOf};
 ghost use Rattle.answer.specs.Answers.{Agrees};
 ghost use Rattle.reach.specs.Reach.{access, indexOf, WritesFit};

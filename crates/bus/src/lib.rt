@@ -1,6 +1,6 @@
 // A frame from its arrival on the bus to the frames that answer it.
 use call::FrameAnswer;
-ghost use Rattle.board.specs.Table.{spacesIn};
+ghost use Rattle.table.specs.Table.{spacesIn};
 ghost use Rattle.frame.specs.Frame.{canFrame, sourceOf};
 ghost use Rattle.reception.specs.PlaceBytes.{stateIn};
 ghost use Rattle.handler.specs.Handling.{fixed, contents};

@@ -1,7 +1,7 @@
 // The call for a whole datagram: the house numbers B1 to B6, and then the datagram handled.
 use answer::Answer;
 use house::HouseNumber;
-ghost use Rattle.board.specs.Table.{spacesIn};
+ghost use Rattle.table.specs.Table.{spacesIn};
 ghost use Rattle.handler.specs.Handling.{fixed, contents};
 ghost use Rattle.datagram.specs.Datagram.{datagramCall, Ends, SmallHandled, HandledChanges};
 

@@ -5,7 +5,7 @@ use mathlib.Core.List.{List, map}
 use Prim.Native.Nat.{ℕ}
 use lib.ListN.{length, replicate}
 use Rattle.board.specs.Description.{findSpace}
-use Rattle.board.specs.Table.{rowAt, spacesFrom, spacesIn}
+use Rattle.table.specs.Table.{rowAt, spacesFrom, spacesIn}
 use Rattle.house.specs.HouseNumbers.{among, spacesHouse, descriptionHouse}
 use Rattle.house.specs.declared.HouseNumber.the-variants.{Good}
 use Rattle.fields.specs.Commands.{kindOf, restOf}

@@ -4,7 +4,7 @@ use mathlib.Core.Bool.{Bool, true, false}
 use mathlib.Core.List.{List, [], _∷_, _++_}
 use lib.ListN.{replicate}
 use Rattle.buffer.specs.LittleEndian.{leastFirst}
-use Rattle.board.specs.declared.Space.{Space}
+use Rattle.table.specs.declared.Space.{Space}
 use Rattle.handler.specs.Handling.{Fixed, fixed, Contents, contents}
 
 abbrev pub space : ℕ → ℕ → ℕ → Bool → Bool → ℕ → Space

@@ -13,9 +13,9 @@ use lib.Pow.{pow-pos, shl-exact}
 use lib.ListN.{length, drop, getD, drop-of-length-le}
 use lib.Seq.{drop-cons}
 use borrow.Author.Tests.{eq-eqb, ne-eqb}
-use Rattle.board.specs.Table.{noSpace, rowAt, spaceAt, spacesFrom, spacesIn}
-use Rattle.board.proofs.Laws.{spaces-length, space-in, table-next, table-done}
-use Rattle.board.specs.declared.Space.{Space}
+use Rattle.table.specs.Table.{noSpace, rowAt, spaceAt, spacesFrom, spacesIn}
+use Rattle.table.proofs.TableLaws.{spaces-length, space-in, table-next, table-done}
+use Rattle.table.specs.declared.Space.{Space}
 use Rattle.house.specs.HouseNumbers.{isGood, orElse, among, numbersOf, windowHouse, spacesHouse}
 use Rattle.house.specs.declared.HouseNumber.{HouseNumber}
 use Rattle.house.specs.declared.HouseNumber.the-variants.{Good, B5}

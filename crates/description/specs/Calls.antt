@@ -3,7 +3,7 @@ use Prim.Native.Nat.{ℕ}
 use mathlib.Core.Bool.{cond}
 use mathlib.Core.List.{List}
 use lib.Dec.{ltb}
-use Rattle.board.specs.declared.Space.{Space}
+use Rattle.table.specs.declared.Space.{Space}
 use Rattle.house.specs.HouseNumbers.{orElse, descriptionHouse}
 use Rattle.house.specs.declared.HouseNumber.{HouseNumber}
 use Rattle.house.specs.declared.HouseNumber.the-variants.{Good, B6}

@@ -4,7 +4,7 @@ ghost use mathlib.Core.Path.{_≡_};
 ghost use mathlib.Core.List.{[]};
 ghost use Prim.Native.Nat.{_*_, _≤_};
 ghost use lib.ListN.{length};
-ghost use Rattle.board.specs.Table.{spacesFrom, spacesIn};
+ghost use Rattle.table.specs.Table.{spacesFrom, spacesIn};
 ghost use Rattle.house.specs.HouseNumbers.{among, numbersOf, spacesHouse};
 
 // B2 to B5 of the spaces of a table, in their order. Each sets a mark, the bit at the remainder of its number by 64: as long
@@ -12,11 +12,11 @@ ghost use Rattle.house.specs.HouseNumbers.{among, numbersOf, spacesHouse};
 pub fn check_spaces(table: &[u8], flash_len: usize, memory_len: usize) -> HouseNumber
     ensures { λ r. ⌜ r ≡ spacesHouse «flash_len» «memory_len» [] (spacesIn (now (table .entry))) ⌝ }
 {
-    let count = board::space_count(table);
+    let count = table::space_count(table);
     let mut marks = 0u64;
     let mut i = 0;
     while i < count {
-        let space = board::space_at(table, i);
+        let space = table::space_at(table, i);
         let house = house::check_window(space, flash_len, memory_len);
         if !house::is_good(house) {
             return house;
@@ -35,10 +35,10 @@ pub fn check_spaces(table: &[u8], flash_len: usize, memory_len: usize) -> HouseN
 fn check_plainly(table: &[u8], flash_len: usize, memory_len: usize) -> HouseNumber
     ensures { λ r. ⌜ r ≡ spacesHouse «flash_len» «memory_len» [] (spacesIn (now (table .entry))) ⌝ }
 {
-    let count = board::space_count(table);
+    let count = table::space_count(table);
     let mut i = 0;
     while i < count {
-        let space = board::space_at(table, i);
+        let space = table::space_at(table, i);
         let house = house::check_window(space, flash_len, memory_len);
         if !house::is_good(house) {
             return house;

@@ -12,7 +12,7 @@ use Rattle.handler.specs.Handling.{Contents}
 use Rattle.datagram.specs.Datagram.{Final}
 use Rattle.call.specs.FrameCall.{frameAnswerOf, frameBufferOf}
 use Rattle.result.specs.Result.{handledResult, frameResult}
-use Rattle.result.specs.declared.CallResult.{CallResult}
+use Rattle.words.specs.declared.CallResult.{CallResult}
 
 -- The numbers, the buffer, memory and lock are what the call for a whole datagram is to leave. Memory was `old`, and has changed nowhere
 -- but in the range that the numbers name, which is empty for every kind but a write.

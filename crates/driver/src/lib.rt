@@ -4,14 +4,14 @@ use frame::Frame;
 use input::Carry;
 use input::Next;
 use parsing::Parsed;
-use result::CallResult;
+use words::CallResult;
 ghost use mathlib.Core.Path.{_≡_};
 ghost use mathlib.Core.List.{[]};
 ghost use lib.ListN.{length};
 ghost use Rattle.buffer.specs.Buffer.{over};
 ghost use Rattle.frame.specs.Frame.{canFrame, sourceOf};
 ghost use Rattle.layout.specs.Layout.{framesBytes};
-ghost use Rattle.board.specs.Table.{spacesIn};
+ghost use Rattle.table.specs.Table.{spacesIn};
 ghost use Rattle.reception.specs.PlaceBytes.{stateIn};
 ghost use Rattle.fragments.specs.Cutting.{cutFrames};
 ghost use Rattle.transport.specs.Transport.{receivedOk, rejectedWith};
@@ -111,7 +111,7 @@ pub extern "C" fn bujorelm_cut(
     ensures count { λ r. ⌜ r ≡ length (cutFrames (now (datagram .entry)) tool board) ⌝ }
     ensures bytes { λ _. ⌜ now (frames .exit) ≡ over (framesBytes (cutFrames (now (datagram .entry)) tool board)) (now (frames .entry)) ⌝ }
 {
-    cutting::cut_datagram(datagram, tool, board, frames)
+    transport::cut_reply(board, tool, datagram, frames)
 }
 
 // The frame of Received OK with its flags, and the number of frames made.

@@ -1,7 +1,7 @@
 // A datagram handled whole: decoded, and what it asks for performed.
 use answer::Answer;
 use command::Decoded;
-ghost use Rattle.board.specs.Table.{spacesIn};
+ghost use Rattle.table.specs.Table.{spacesIn};
 ghost use Rattle.handler.specs.Handling.{fixed, contents, handle, Performs, HandleBounds};
 
 // Handles a datagram; the house numbers are the caller's to test. A reply that has no room in the buffer is not written.

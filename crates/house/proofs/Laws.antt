@@ -11,7 +11,7 @@ use Rattle.buffer.proofs.Choice.{cond-true, cond-false, cond-elim, cond-not, cl
 use Rattle.board.specs.Description.{sizeOf, storeOf, findSpace}
 use Rattle.board.specs.declared.Found.{Found}
 use Rattle.board.specs.declared.Found.the-variants.{Described, Empty, Unknown}
-use Rattle.board.specs.declared.Space.{Space}
+use Rattle.table.specs.declared.Space.{Space}
 use Rattle.house.specs.HouseNumbers.{isGood, orElse, windowHouse, spaceHouse, spacesHouse, limitsHouse, descriptionHouse}
 use Rattle.house.specs.declared.HouseNumber.{HouseNumber}
 use Rattle.house.specs.declared.HouseNumber.the-variants.{Good, B1, B2, B3, B4, B5, B6, B7}

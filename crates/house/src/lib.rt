@@ -1,5 +1,5 @@
 // The house numbers: B1 by the sizes of a board, B2 to B4 of one space.
-use board::Space;
+use table::Space;
 ghost use mathlib.Core.Path.{_≡_};
 ghost use Rattle.house.specs.HouseNumbers.{isGood, limitsHouse, windowHouse};
 

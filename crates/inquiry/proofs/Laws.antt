@@ -6,7 +6,7 @@ use mathlib.Core.List.{List, [], _∷_}
 use lib.ListN.{getD}
 use borrow.Author.Tests.{eq-eqb, ne-eqb}
 use Rattle.buffer.specs.BigEndian.{bytesOf}
-use Rattle.board.specs.declared.Space.{Space}
+use Rattle.table.specs.declared.Space.{Space}
 use Rattle.board.specs.declared.Found.the-variants.{Described}
 use Rattle.inquiry.specs.Inquiry.{accessFlag, informationReply}
 

@@ -5,7 +5,7 @@ use mathlib.Core.List.{List, [], _∷_, _++_}
 use lib.Dec.{eqb}
 use Rattle.buffer.specs.BigEndian.{bytesOf}
 use Rattle.board.specs.Description.{lowestNumber}
-use Rattle.board.specs.declared.Space.{Space}
+use Rattle.table.specs.declared.Space.{Space}
 use Rattle.board.specs.declared.Found.{Found}
 use Rattle.board.specs.declared.Found.the-variants.{Described, Empty, Unknown}
 

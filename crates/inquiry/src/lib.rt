@@ -1,10 +1,10 @@
 // The commands that ask about the board: its options, and what is known of a space.
 use answer::Answer;
 use board::Found;
-use board::Space;
+use table::Space;
 ghost use mathlib.Core.Path.{_≡_};
 ghost use Prim.Native.Nat.{_≤_};
-ghost use Rattle.board.specs.Table.{spacesIn};
+ghost use Rattle.table.specs.Table.{spacesIn};
 ghost use Rattle.answer.specs.Answers.{receivedOkReply, Agrees};
 ghost use Rattle.inquiry.specs.Inquiry.{optionsReply, accessFlag, absentReply, informationReply};
 

@@ -5,7 +5,7 @@ use joining::Outcome;
 ghost use mathlib.Core.Path.{_≡_};
 ghost use Prim.Native.Nat.{_≤_};
 ghost use lib.ListN.{length};
-ghost use Rattle.board.specs.Table.{spacesIn};
+ghost use Rattle.table.specs.Table.{spacesIn};
 ghost use Rattle.reception.specs.Books.{finish};
 ghost use Rattle.reception.specs.Reception.{State};
 ghost use Rattle.reception.specs.Order.{answerEvent};

@@ -5,7 +5,7 @@ use mathlib.Core.Bool.{true, false}
 use mathlib.Core.List.{List}
 use lib.ListN.{length}
 use Rattle.board.specs.Description.{findSpace}
-use Rattle.board.specs.declared.Space.{Space}
+use Rattle.table.specs.declared.Space.{Space}
 use Rattle.board.specs.declared.Found.{Found}
 use Rattle.fields.specs.Commands.{Request, read, write, writeMasked, options, information, reserve, updateComplete}
 use Rattle.fields.specs.declared.Form.{Form}

@@ -4,7 +4,7 @@ use command::Command;
 use fields::Form;
 ghost use mathlib.Core.Path.{_≡_};
 ghost use lib.ListN.{length};
-ghost use Rattle.board.specs.Table.{spacesIn};
+ghost use Rattle.table.specs.Table.{spacesIn};
 ghost use Rattle.fields.specs.Commands.{restOf};
 ghost use Rattle.reply.specs.Replies.{lockReply};
 ghost use Rattle.answer.specs.Answers.{receivedOkReply, Agrees};

@@ -9,8 +9,8 @@ use lib.Dec.{leb}
 use borrow.Author.Tests.{leb-true, leb-false, le-leb, lt-leb}
 use Rattle.buffer.proofs.Choice.{cond-false, cond-elim, cond-not, and-left, and-right}
 use Rattle.board.specs.Description.{findSpace, sizeOf}
-use Rattle.board.specs.Table.{spacesIn}
-use Rattle.board.specs.declared.Space.{Space}
+use Rattle.table.specs.Table.{spacesIn}
+use Rattle.table.specs.declared.Space.{Space}
 use Rattle.board.specs.declared.Found.{Found}
 use Rattle.board.specs.declared.Found.the-variants.{Described, Empty, Unknown}
 use Rattle.house.proofs.Laws.{Fine, FoundFine, good-find}

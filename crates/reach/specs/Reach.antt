@@ -7,7 +7,7 @@ use lib.Dec.{leb}
 use Rattle.board.specs.Description.{findSpace}
 use Rattle.house.specs.HouseNumbers.{descriptionHouse}
 use Rattle.house.specs.declared.HouseNumber.the-variants.{Good}
-use Rattle.board.specs.declared.Space.{Space}
+use Rattle.table.specs.declared.Space.{Space}
 use Rattle.board.specs.declared.Found.{Found}
 use Rattle.board.specs.declared.Found.the-variants.{Described, Empty, Unknown}
 use Rattle.reach.specs.declared.Access.{Access}

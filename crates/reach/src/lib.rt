@@ -1,9 +1,9 @@
 // What a read or a write reaches: a described space, or the code with which it fails.
 use board::Found;
-use board::Space;
+use table::Space;
 ghost use mathlib.Core.Path.{_≡_};
 ghost use Rattle.board.specs.Description.{findSpace};
-ghost use Rattle.board.specs.Table.{spacesIn};
+ghost use Rattle.table.specs.Table.{spacesIn};
 ghost use Rattle.reach.specs.Reach.{inside, access};
 
 // A read or a write reaches a described space, or fails with a code.

@@ -16,8 +16,9 @@ use Rattle.datagram.specs.declared.Handled.the-variants as handled
 use Rattle.call.specs.FrameCall.{SmallFrame, FrameChanges}
 use Rattle.call.specs.declared.FrameAnswer.{FrameAnswer}
 use Rattle.call.specs.declared.FrameAnswer.the-variants as frame
-use Rattle.result.specs.Result.{numbers, answerResult, handledResult, frameResult, inBytes}
-use Rattle.result.specs.declared.CallResult.{CallResult}
+use Rattle.words.specs.Words.{numbers, inBytes}
+use Rattle.words.specs.declared.CallResult.{CallResult}
+use Rattle.result.specs.Result.{answerResult, handledResult, frameResult}
 
 -- ---- room
 

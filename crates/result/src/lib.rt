@@ -3,26 +3,12 @@ use answer::Answer;
 use call::FrameAnswer;
 use datagram::Handled;
 use house::HouseNumber;
+use words::CallResult;
+use words::Words;
 ghost use mathlib.Core.Path.{_≡_};
-ghost use Prim.Native.Nat.{min};
 ghost use Rattle.house.specs.HouseNumbers.{houseNumberOf};
-ghost use Rattle.result.specs.Result.{numbers, fieldsOf, answerResult, handledResult, frameResult, inBytes};
-
-// What comes of a call. The kinds: 0 refused by the house number `house`, 1 ignored, 2 joined and not answered, 3 refused by the transport
-// with `code`, 4 rejected with `code`, 5 a write that is done, Received OK with `flags` 0x00, and memory changed in `changed_len` bytes from
-// `changed_at` on, 6 Received OK with `flags` 0x80 and a reply of `reply_len` bytes, 7 Update Complete, Received OK with `flags` 0x00.
-// `frame_count` frames are to be sent. A number that its kind does not name is 0.
-#[repr(C)]
-pub struct CallResult {
-    pub kind: u32,
-    pub code: u16,
-    pub house: u8,
-    pub flags: u8,
-    pub changed_at: u32,
-    pub changed_len: u8,
-    pub reply_len: u8,
-    pub frame_count: u8,
-}
+ghost use Rattle.words.specs.Words.{fieldsOf, inBytes};
+ghost use Rattle.result.specs.Result.{answerResult, handledResult, frameResult};
 
 fn house_number(house: HouseNumber) -> u8
     ensures { λ r. ⌜ r ≡ houseNumberOf house ⌝ }
@@ -39,96 +25,21 @@ fn house_number(house: HouseNumber) -> u8
     }
 }
 
-// A number in one byte, and in four: the greatest that has room for one that has none.
-fn byte(n: usize) -> u8
-    ensures { λ r. ⌜ r ≡ min n 255 ⌝ }
-{
-    if n < 255 { n as u8 } else { 255 }
-}
-
-fn four_bytes(n: usize) -> u32
-    ensures { λ r. ⌜ r ≡ min n 0xFFFFFFFF ⌝ }
-{
-    if n < 0xFFFFFFFF { n as u32 } else { 0xFFFFFFFF }
-}
-
-// The 16 bytes of a `CallResult` as two words, least significant byte first. What each answer has in them is known, but for a few bytes, when
-// the code is compiled: so a result is made as two words, in the two registers in which it goes back.
-struct Words {
-    first: u64,
-    second: u64,
-}
-
-// The numbers that the words hold.
-fn in_fields(w: Words) -> CallResult
-    ensures { λ r. ⌜ r ≡ fieldsOf w ⌝ }
-{
-    CallResult {
-        kind: (w.first % 0x100000000) as u32,
-        code: (w.first / 0x100000000 % 0x10000) as u16,
-        house: (w.first / 0x1000000000000 % 256) as u8,
-        flags: (w.first / 0x100000000000000) as u8,
-        changed_at: (w.second % 0x100000000) as u32,
-        changed_len: (w.second / 0x100000000 % 256) as u8,
-        reply_len: (w.second / 0x10000000000 % 256) as u8,
-        frame_count: (w.second / 0x1000000000000 % 256) as u8,
-    }
-}
-
-// A kind with its numbers.
-fn of(kind: u32, house: u8, flags: u8, code: u16, frame_count: usize) -> Words
-    ensures { λ r. ⌜ fieldsOf r ≡ inBytes (numbers kind house flags code 0 0 0 «frame_count») ⌝ }
-{
-    let count = byte(frame_count);
-    Words {
-        first: kind as u64
-            + code as u64 * 0x100000000
-            + house as u64 * 0x1000000000000
-            + flags as u64 * 0x100000000000000,
-        second: count as u64 * 0x1000000000000,
-    }
-}
-
-// A write that is done.
-fn of_write(index: usize, n: usize, frame_count: usize) -> Words
-    ensures { λ r. ⌜ fieldsOf r ≡ inBytes (numbers 5 0 0 0 index n 0 «frame_count») ⌝ }
-{
-    let at = four_bytes(index);
-    let len = byte(n);
-    let count = byte(frame_count);
-    Words {
-        first: 5,
-        second: at as u64 + len as u64 * 0x100000000 + count as u64 * 0x1000000000000,
-    }
-}
-
-// A reply.
-fn of_reply(n: usize, frame_count: usize) -> Words
-    ensures { λ r. ⌜ fieldsOf r ≡ inBytes (numbers 6 0 0x80 0 0 0 n «frame_count») ⌝ }
-{
-    let len = byte(n);
-    let count = byte(frame_count);
-    Words {
-        first: 6 + 0x80 * 0x100000000000000,
-        second: len as u64 * 0x10000000000 + count as u64 * 0x1000000000000,
-    }
-}
-
 fn of_answer(answer: Answer, frame_count: usize) -> Words
     ensures { λ r. ⌜ fieldsOf r ≡ inBytes (answerResult answer «frame_count») ⌝ }
 {
     match answer {
         Answer::Rejected(code) => {
-            return of(4, 0, 0, code, frame_count);
+            return words::of_kind(4, 0, 0, code, frame_count);
         }
         Answer::Written(index, n) => {
-            return of_write(index, n, frame_count);
+            return words::of_write(index, n, frame_count);
         }
         Answer::UpdateComplete => {
-            return of(7, 0, 0x00, 0, frame_count);
+            return words::of_kind(7, 0, 0x00, 0, frame_count);
         }
         Answer::Replied(n) => {
-            return of_reply(n, frame_count);
+            return words::of_reply(n, frame_count);
         }
     }
 }
@@ -138,7 +49,7 @@ fn words_of_handled(handled: Handled) -> Words
 {
     match handled {
         Handled::Refused(house) => {
-            return of(0, house_number(house), 0, 0, 0);
+            return words::of_kind(0, house_number(house), 0, 0, 0);
         }
         Handled::Answered(answer) => {
             return of_answer(answer, 0);
@@ -151,16 +62,16 @@ fn words_of_frame(answer: FrameAnswer, frame_count: usize) -> Words
 {
     match answer {
         FrameAnswer::Refused(house) => {
-            return of(0, house_number(house), 0, 0, frame_count);
+            return words::of_kind(0, house_number(house), 0, 0, frame_count);
         }
         FrameAnswer::Ignored => {
-            return of(1, 0, 0, 0, frame_count);
+            return words::of_kind(1, 0, 0, 0, frame_count);
         }
         FrameAnswer::Nothing => {
-            return of(2, 0, 0, 0, frame_count);
+            return words::of_kind(2, 0, 0, 0, frame_count);
         }
         FrameAnswer::TransportRefusal(code) => {
-            return of(3, 0, 0, code, frame_count);
+            return words::of_kind(3, 0, 0, code, frame_count);
         }
         FrameAnswer::Answered(done) => {
             return of_answer(done, frame_count);
@@ -172,12 +83,12 @@ fn words_of_frame(answer: FrameAnswer, frame_count: usize) -> Words
 pub fn of_handled(handled: Handled) -> CallResult
     ensures { λ r. ⌜ r ≡ inBytes (handledResult handled) ⌝ }
 {
-    in_fields(words_of_handled(handled))
+    words::in_fields(words_of_handled(handled))
 }
 
 // The frame call, with the number of frames to send.
 pub fn of_frame(answer: FrameAnswer, frame_count: usize) -> CallResult
     ensures { λ r. ⌜ r ≡ inBytes (frameResult answer «frame_count») ⌝ }
 {
-    in_fields(words_of_frame(answer, frame_count))
+    words::in_fields(words_of_frame(answer, frame_count))
 }

@@ -1,4 +1,4 @@
-// The frames of the transport replies Received OK and Rejected, and a reply behind Received OK. They are put into lent bytes, 16 for each,
+// The frames of the transport replies Received OK and Rejected, and of a reply, by itself or behind Received OK. They are put into lent bytes, 16 for each,
 // with room for the ten frames that an answer has at most.
 ghost use mathlib.Core.Path.{_≡_};
 ghost use mathlib.Core.List.{_++_};
@@ -54,6 +54,14 @@ pub fn received_ok_then(
         return 0;
     }
     cutting::cut_behind(reply, tool, board, frames)
+}
+
+// The frames of a reply by itself, from the board to a tool: 1 to 9, or 0 and no frame made where B9 refuses it.
+pub fn cut_reply(board: u16, tool: u16, reply: &[u8], frames: &mut [u8; 160]) -> usize
+    ensures count { λ r. ⌜ r ≡ length (cutFrames (now (reply .entry)) tool board) ⌝ }
+    ensures bytes { λ _. ⌜ now (frames .exit) ≡ over (framesBytes (cutFrames (now (reply .entry)) tool board)) (now (frames .entry)) ⌝ }
+{
+    cutting::cut_datagram(reply, tool, board, frames)
 }
 
 // Rejected with its code, from the board to a tool: 1, or 0 and no frame made where an alias is over 4,095, which no header carries.

@@ -1,6 +1,6 @@
 // A line answered: its frame is handled, and what the board sends is printed.
 use parsing::Parsed;
-ghost use Rattle.board.specs.Table.{spacesIn};
+ghost use Rattle.table.specs.Table.{spacesIn};
 ghost use Rattle.reception.specs.PlaceBytes.{stateIn};
 ghost use Rattle.handler.specs.Handling.{fixed, contents};
 ghost use Rattle.session.specs.Turn.{answerWithRoom, Prints};

@@ -1,6 +1,6 @@
 -- `answer_frame` meets its contract, and demand 3 of frames in and frames out holds of it.
 -- Assumes nothing.
-use Rattle.board.specs.Table.{spacesIn}
+use Rattle.table.specs.Table.{spacesIn}
 use Rattle.frame.specs.Frame.{canFrame, sourceOf}
 use Rattle.reception.specs.PlaceBytes.{stateIn}
 use Rattle.handler.specs.Handling.{fixed, contents}

@@ -5,7 +5,7 @@ use Prim.Native.Nat.{_-_}
 use native.Mathlib.Omega.{arith}
 use lib.ListN.{length}
 use borrow.Author.Needs.{needs}
-use Rattle.board.specs.Table.{spacesIn}
+use Rattle.table.specs.Table.{spacesIn}
 use Rattle.reception.specs.PlaceBytes.{stateIn}
 use Rattle.handler.specs.Handling.{fixed, contents}
 use Rattle.room.proofs.RoomLaws.{room-none, room-there}

@@ -2,7 +2,7 @@
 -- Assumes nothing.
 use mathlib.Core.Path.{refl}
 use Rattle.house.proofs.Laws.{tested-bad, tested-good}
-use Rattle.board.specs.Table.{spacesIn}
+use Rattle.table.specs.Table.{spacesIn}
 use Rattle.handler.specs.Handling.{fixed, contents}
 use Rattle.datagram.proofs.Laws.{by-sizes, call-refused, call-answered, call-small, call-changes}
 use borrow.Author.Needs.{needs}

@@ -1,7 +1,7 @@
 -- `handle` meets its contract.
 -- Assumes nothing.
 use mathlib.Core.Path.{_≡_, refl, sym, ap, _∙_}
-use Rattle.board.specs.Table.{spacesIn}
+use Rattle.table.specs.Table.{spacesIn}
 use Rattle.command.specs.Decoding.{readingOf}
 use Rattle.handler.specs.Handling.{fixed, contents, handle}
 use Rattle.handler.proofs.Laws.{request-handled, handle-bounds}

@@ -1,7 +1,7 @@
 -- `handle_frame` meets its contract, and demand 3 holds of it.
 -- Assumes nothing.
 use mathlib.Core.Path.{_≡_, refl, sym, ap, _∙_}
-use Rattle.board.specs.Table.{spacesIn}
+use Rattle.table.specs.Table.{spacesIn}
 use Rattle.house.specs.HouseNumbers.{isGood}
 use Rattle.house.proofs.Laws.{tested-bad, tested-good, is-good}
 use Rattle.frame.specs.Frame.{canFrame}

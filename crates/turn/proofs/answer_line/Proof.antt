@@ -3,7 +3,7 @@
 use lib.ListN.{length}
 use borrow.Author.Needs.{needs}
 use borrow.Author.Tests.{not-true, not-false}
-use Rattle.board.specs.Table.{spacesIn}
+use Rattle.table.specs.Table.{spacesIn}
 use Rattle.reception.specs.PlaceBytes.{stateIn}
 use Rattle.handler.specs.Handling.{fixed, contents}
 use Rattle.room.proofs.RoomLaws.{room-none, room-there}

@@ -6,8 +6,8 @@ use Prim.Native.Nat.{_-_, _/_}
 use native.Mathlib.Omega.{arith}
 use lib.ListN.{length, drop}
 use Rattle.house.specs.HouseNumbers.{numbersOf, spacesHouse}
-use Rattle.board.specs.Table.{spacesFrom, spacesIn}
-use Rattle.board.proofs.Laws.{spaces-length}
+use Rattle.table.specs.Table.{spacesFrom, spacesIn}
+use Rattle.table.proofs.TableLaws.{spaces-length}
 use Rattle.description.proofs.Laws.{numbers-more, turn-refused, turn-used, turn-good, turn-none}
 use borrow.Author.Needs.{needs}
 use Rattle.description.proofs.checks.check_plainly.Statement.{statement}

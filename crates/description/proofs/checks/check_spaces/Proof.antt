@@ -6,7 +6,7 @@ use Prim.Native.Nat.{_≤_, _-_}
 use native.Mathlib.Omega.{arith}
 use lib.ListN.{drop}
 use Rattle.house.specs.HouseNumbers.{numbersOf, spacesHouse}
-use Rattle.board.specs.Table.{spacesFrom, spacesIn}
+use Rattle.table.specs.Table.{spacesFrom, spacesIn}
 use Rattle.description.proofs.Laws.{Marks, marks-none, marks-more, numbers-more, turn-refused, turn-good, turn-none}
 use borrow.Author.Needs.{needs}
 use Rattle.description.proofs.checks.check_spaces.Statement.{statement}

@@ -4,8 +4,8 @@ use mathlib.Core.Path.{_≡_, sym, _∙_}
 use Prim.Native.Nat.{_≤_, _-_}
 use native.Mathlib.Omega.{arith}
 use Rattle.house.specs.HouseNumbers.{among, numbersOf}
-use Rattle.board.specs.Table.{spacesFrom}
-use Rattle.board.proofs.Laws.{table-start}
+use Rattle.table.specs.Table.{spacesFrom}
+use Rattle.table.proofs.TableLaws.{table-start}
 use Rattle.description.proofs.Laws.{used-hit, used-miss, used-none}
 use borrow.Author.Needs.{needs}
 use Rattle.description.proofs.checks.is_used.Statement.{statement}

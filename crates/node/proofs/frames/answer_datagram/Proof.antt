@@ -1,6 +1,6 @@
 -- `answer_datagram` meets its contract.
 -- Assumes nothing.
-use Rattle.board.specs.Table.{spacesIn}
+use Rattle.table.specs.Table.{spacesIn}
 use Rattle.handler.specs.Handling.{fixed, contents}
 use Rattle.call.proofs.CallLaws.{answers-finish}
 use borrow.Author.Needs.{needs}

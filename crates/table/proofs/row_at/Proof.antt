@@ -1,9 +1,9 @@
 -- `row_at` meets its contract.
 -- Assumes nothing.
-use Rattle.board.specs.Table.{rowAt}
+use Rattle.table.specs.Table.{rowAt}
 use borrow.Author.Needs.{needs}
-use Rattle.board.proofs.row_at.Statement.{statement}
-use Rattle.board.proofs.row_at.Tie as tie
+use Rattle.table.proofs.row_at.Statement.{statement}
+use Rattle.table.proofs.row_at.Tie as tie
 
 returns : tie.Need-returns
 unfolding rowAt

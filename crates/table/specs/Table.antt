@@ -5,7 +5,7 @@ use mathlib.Core.List.{List, [], _∷_}
 use lib.Dec.{eqb}
 use lib.ListN.{length, getD}
 use Rattle.buffer.specs.BigEndian.{numberOf}
-use Rattle.board.specs.declared.Space.{Space}
+use Rattle.table.specs.declared.Space.{Space}
 
 -- The byte at an index.
 abbrev pub byteAt : List ℕ → ℕ → ℕ

@@ -3,8 +3,8 @@
 use Prim.Native.Nat.{ℕ, _+_, _*_, _/_, _%_, _<_}
 use mathlib.Core.Path.{_≡_}
 use native.Mathlib.Omega.{arith}
-use Rattle.result.specs.Result.{numbers, fieldsOf}
-use Rattle.result.specs.declared.Words.{Words}
+use Rattle.words.specs.Words.{numbers, fieldsOf}
+use Rattle.words.specs.declared.Words.{Words}
 
 low-byte : (x y more : ℕ) → y < 256 → x ≡ y + more * 256 → x % 256 ≡ y
 low-byte x y more h e = omega arith

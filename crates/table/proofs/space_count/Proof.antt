@@ -1,8 +1,8 @@
 -- `space_count` meets its contract.
 -- Assumes nothing.
-use Rattle.board.proofs.Laws.{spaces-length}
-use Rattle.board.proofs.space_count.Statement.{statement}
-use Rattle.board.proofs.space_count.Tie as tie
+use Rattle.table.proofs.TableLaws.{spaces-length}
+use Rattle.table.proofs.space_count.Statement.{statement}
+use Rattle.table.proofs.space_count.Tie as tie
 
 returns : tie.Need-returns
 returns c = rw spaces-length

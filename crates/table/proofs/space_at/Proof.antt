@@ -2,9 +2,9 @@
 -- Assumes nothing.
 use mathlib.Core.Path.{sym, _∙_}
 use native.Mathlib.Omega.{arith}
-use Rattle.board.proofs.Laws.{space-in, space-out}
-use Rattle.board.proofs.space_at.Statement.{statement}
-use Rattle.board.proofs.space_at.Tie as tie
+use Rattle.table.proofs.TableLaws.{space-in, space-out}
+use Rattle.table.proofs.space_at.Statement.{statement}
+use Rattle.table.proofs.space_at.Tie as tie
 
 returns : tie.Need-returns
 returns c =

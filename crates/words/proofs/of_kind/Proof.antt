@@ -1,12 +1,12 @@
--- `of` meets its contract.
+-- `of_kind` meets its contract.
 -- Assumes nothing.
 use Prim.Native.Nat.{min, _<_}
 use mathlib.Core.Path.{_≡_, refl}
 use native.Mathlib.Omega.{arith}
 use borrow.Author.Needs.{needs}
-use Rattle.result.proofs.WordLaws.{sum-fields}
-use Rattle.result.proofs.of.Statement.{statement}
-use Rattle.result.proofs.of.Tie as tie
+use Rattle.words.proofs.WordLaws.{sum-fields}
+use Rattle.words.proofs.of_kind.Statement.{statement}
+use Rattle.words.proofs.of_kind.Tie as tie
 
 returns : tie.Need-returns
 returns c =
@@ -15,8 +15,8 @@ returns c =
     sum-fields (a .kind) (a .house) (a .flags) (a .code) 0 0 0 (min (a .frame-count) 255) (omega arith) (omega arith) (omega arith) (omega arith) (omega arith) (omega arith) (omega arith)
     (omega arith) _ refl (omega (arith, e))
 
-pub of-spec : {M : Type 1} → statement M
-of-spec =
+pub of-kind-spec : {M : Type 1} → statement M
+of-kind-spec =
     tie.close
     (tie.spec
     (λ c κs. search needs)
