@@ -13,7 +13,7 @@ ghost use Rattle.fields.specs.Commands.{pairsOf};
 ghost use Rattle.answer.specs.Answers.{Agrees};
 ghost use Rattle.reach.specs.Reach.{access, indexOf, WritesFit};
 ghost use Rattle.storing.specs.Storing.{storeBytes, storeMasked};
-ghost use Rattle.access.specs.Access.{bytesRead, readResult, Writes};
+ghost use Rattle.handling.specs.Access.{bytesRead, readResult, Writes};
 
 // The bytes of a space from an address of it on, up to `count`.
 fn bytes_in<'a>(

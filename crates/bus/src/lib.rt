@@ -3,7 +3,7 @@ use call::FrameAnswer;
 ghost use Rattle.table.specs.Table.{spacesIn};
 ghost use Rattle.frame.specs.Frame.{canFrame, sourceOf};
 ghost use Rattle.reception.specs.PlaceBytes.{stateIn};
-ghost use Rattle.handler.specs.Handling.{fixed, contents};
+ghost use Rattle.handling.specs.Handling.{fixed, contents};
 ghost use Rattle.call.specs.FrameCall.{frameCall, Answers, Keeps, SmallFrame, FrameChanges};
 ghost use Rattle.sending.specs.Sending.{sentFor, Made, BusOrder};
 

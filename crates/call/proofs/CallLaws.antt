@@ -14,11 +14,11 @@ use Rattle.reception.specs.Reception.{State}
 use Rattle.reception.specs.Order.{result, houseRefusal, answerEvent, handleFrame}
 use Rattle.reception.specs.Books.{Event, ignored, noAnswer, refuse, finish, badState}
 use Rattle.reception.proofs.Order.{order}
-use Rattle.access.specs.Access.{Changes}
-use Rattle.handler.specs.Handling.{Fixed, Contents, handle, Performs}
-use Rattle.handler.proofs.Laws.{whole, handle-bounds}
-use Rattle.datagram.specs.Datagram.{datagramHouse}
-use Rattle.datagram.proofs.Laws.{answer-small}
+use Rattle.handling.specs.Access.{Changes}
+use Rattle.handling.specs.Handling.{Fixed, Contents, handle, Performs}
+use Rattle.handling.proofs.HandlingLaws.{whole, handle-bounds}
+use Rattle.call.specs.DatagramCall.{datagramHouse}
+use Rattle.call.proofs.DatagramLaws.{answer-small}
 use Rattle.answer.specs.Answers.{Result, answerOf, bufferOf}
 use Rattle.answer.specs.declared.Answer.{Answer}
 use Rattle.answer.specs.declared.Answer.the-variants.{Rejected, Written, UpdateComplete, Replied}

@@ -13,9 +13,9 @@ use Rattle.reception.specs.Order as order
 use Rattle.reception.specs.Order.{FrameResult, result, houseRefusal, ignoredFrame, nothing, transportRefusal, handled, handleFrame, OrderStatement}
 use Rattle.reception.specs.PlaceBytes.{placesIn, renewed}
 use Rattle.answer.specs.Answers.{Result, answerOf, bufferOf, SmallAnswer}
-use Rattle.access.specs.Access.{Changes}
-use Rattle.handler.specs.Handling.{Fixed, Contents, Outcome, handle, Short}
-use Rattle.datagram.specs.Datagram.{datagramHouse}
+use Rattle.handling.specs.Access.{Changes}
+use Rattle.handling.specs.Handling.{Fixed, Contents, Outcome, handle, Short}
+use Rattle.call.specs.DatagramCall.{datagramHouse}
 use Rattle.call.specs.declared.FrameAnswer.{FrameAnswer}
 use Rattle.call.specs.declared.FrameAnswer.the-variants as answer
 

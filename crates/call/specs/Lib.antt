@@ -1,1 +1,2 @@
+pub mod DatagramCall
 pub mod FrameCall

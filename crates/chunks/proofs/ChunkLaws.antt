@@ -13,7 +13,7 @@ use borrow.Author.Tests.{le-leb, lt-leb, eqb-true, eqb-false}
 use Rattle.buffer.proofs.Choice.{cond-elim, by-test}
 use Rattle.buffer.proofs.Laws.{put-nil, put-length, take-put, drop-behind}
 use Rattle.reception.specs.Reception.{State}
-use Rattle.handler.specs.Handling.{Fixed, Contents}
+use Rattle.handling.specs.Handling.{Fixed, Contents}
 use Rattle.parsing.specs.Parsing.{parseOf}
 use Rattle.parsing.specs.declared.Parsed.{Parsed}
 use Rattle.newline.specs.Newline.{untilNewline}

@@ -5,7 +5,7 @@ use mathlib.Core.Bool.{cond}
 use mathlib.Core.List.{List, []}
 use lib.ListN.{length, take, drop}
 use Rattle.reception.specs.Reception.{State}
-use Rattle.handler.specs.Handling.{Fixed, Contents}
+use Rattle.handling.specs.Handling.{Fixed, Contents}
 use Rattle.parsing.specs.declared.Parsed.{Parsed}
 use Rattle.room.specs.Room.{hasRoom}
 use Rattle.input.specs.Input.{readFrom, carryAfter, lastOf, given}

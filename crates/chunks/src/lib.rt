@@ -7,7 +7,7 @@ ghost use Prim.Native.Nat.{_+_, _≤_};
 ghost use lib.ListN.{length};
 ghost use Rattle.table.specs.Table.{spacesIn};
 ghost use Rattle.reception.specs.PlaceBytes.{stateIn};
-ghost use Rattle.handler.specs.Handling.{fixed, contents};
+ghost use Rattle.handling.specs.Handling.{fixed, contents};
 ghost use Rattle.input.specs.Input.{given};
 ghost use Rattle.session.specs.Turn.{Prints};
 ghost use Rattle.session.specs.Session.{answerLines, AnyChunks};

@@ -1,15 +1,8 @@
 // The call for a whole datagram: the house numbers B1 to B6, and then the datagram handled.
-use answer::Answer;
-use house::HouseNumber;
+use call::Handled;
 ghost use Rattle.table.specs.Table.{spacesIn};
-ghost use Rattle.handler.specs.Handling.{fixed, contents};
-ghost use Rattle.datagram.specs.Datagram.{datagramCall, Ends, SmallHandled, HandledChanges};
-
-// What comes of a call: a house number, or an answer to send.
-pub enum Handled {
-    Refused(HouseNumber),
-    Answered(Answer),
-}
+ghost use Rattle.handling.specs.Handling.{fixed, contents};
+ghost use Rattle.call.specs.DatagramCall.{datagramCall, Ends, SmallHandled, HandledChanges};
 
 // Handles a datagram that is handed over whole.
 pub fn handle_datagram(

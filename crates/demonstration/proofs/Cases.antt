@@ -13,8 +13,8 @@ use Rattle.command.specs.Decoding.{decodeRead, decodeWrite, decodeMasked, decod
 use Rattle.buffer.specs.Buffer.{putAt, placed}
 use Rattle.head.specs.Head.{replyHead}
 use Rattle.inquiry.specs.Inquiry.{informationReply}
-use Rattle.access.specs.Access.{readResult, writeResult, memoryAfter}
-use Rattle.handler.specs.Handling.{Outcome, outcome, perform, handle}
+use Rattle.handling.specs.Access.{readResult, writeResult, memoryAfter}
+use Rattle.handling.specs.Handling.{Outcome, outcome, perform, handle}
 use Rattle.demonstration.specs.Board.{rowOf, demoSpaces, demoFlash, demoMemory, demoFixed, demoContents}
 use Rattle.demonstration.specs.Cases.{cases, ProvedCases}
 

@@ -15,9 +15,9 @@ use Rattle.fragments.specs.Cutting.{restFrames, framesOf, cutFrames}
 use Rattle.transport.specs.Transport.{receivedOk, rejectedWith}
 use Rattle.head.specs.Head.{replyHead}
 use Rattle.storing.specs.Storing.{masked, storeMasked}
-use Rattle.access.specs.Access.{readResult, writeResult, memoryAfter}
-use Rattle.handler.specs.Handling.{perform, handle}
-use Rattle.datagram.specs.Datagram.{datagramHouse}
+use Rattle.handling.specs.Access.{readResult, writeResult, memoryAfter}
+use Rattle.handling.specs.Handling.{perform, handle}
+use Rattle.call.specs.DatagramCall.{datagramHouse}
 use Rattle.call.specs.FrameCall.{frameCall}
 use Rattle.sending.specs.Sending.{framesToSend}
 use Rattle.digit.specs.Digit.{digitValue, digitOf}

@@ -5,7 +5,7 @@ use mathlib.Core.List.{List, [], _∷_, _++_}
 use lib.ListN.{replicate}
 use Rattle.buffer.specs.LittleEndian.{leastFirst}
 use Rattle.table.specs.declared.Space.{Space}
-use Rattle.handler.specs.Handling.{Fixed, fixed, Contents, contents}
+use Rattle.handling.specs.Handling.{Fixed, fixed, Contents, contents}
 
 abbrev pub space : ℕ → ℕ → ℕ → Bool → Bool → ℕ → Space
 space n low high readOnly inFlash offset =

@@ -6,7 +6,7 @@ use lib.ListN.{length, replicate}
 use Rattle.house.specs.HouseNumbers.{descriptionHouse}
 use Rattle.house.specs.declared.HouseNumber.the-variants.{Good}
 use Rattle.answer.specs.Answers.{Result, datagramRejected, receivedOkReply}
-use Rattle.handler.specs.Handling.{Outcome, outcome, handle}
+use Rattle.handling.specs.Handling.{Outcome, outcome, handle}
 use Rattle.demonstration.specs.Board.{demoAlias, demoSpaces, demoFlash, demoMemory, demoFixed, demoContents}
 
 -- A datagram, and how it is answered.

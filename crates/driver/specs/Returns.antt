@@ -8,8 +8,8 @@ use Rattle.frame.specs.declared.Frame.{Frame}
 use Rattle.reception.specs.Order.{FrameResult}
 use Rattle.answer.specs.Answers.{Result}
 use Rattle.storing.specs.Storing.{OnlyWithin}
-use Rattle.handler.specs.Handling.{Contents}
-use Rattle.datagram.specs.Datagram.{Final}
+use Rattle.handling.specs.Handling.{Contents}
+use Rattle.call.specs.DatagramCall.{Final}
 use Rattle.call.specs.FrameCall.{frameAnswerOf, frameBufferOf}
 use Rattle.result.specs.Result.{handledResult, frameResult}
 use Rattle.words.specs.declared.CallResult.{CallResult}

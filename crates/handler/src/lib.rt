@@ -2,7 +2,7 @@
 use answer::Answer;
 use command::Decoded;
 ghost use Rattle.table.specs.Table.{spacesIn};
-ghost use Rattle.handler.specs.Handling.{fixed, contents, handle, Performs, HandleBounds};
+ghost use Rattle.handling.specs.Handling.{fixed, contents, handle, Performs, HandleBounds};
 
 // Handles a datagram; the house numbers are the caller's to test. A reply that has no room in the buffer is not written.
 pub fn handle(

@@ -13,8 +13,8 @@ use Rattle.reception.specs.Order.{answerEvent, handleFrame}
 use Rattle.joining.specs.Joins.{eventOf, InsidePool, Joins}
 use Rattle.joining.specs.declared.Outcome.{Outcome}
 use Rattle.joining.specs.declared.Outcome.the-variants as outcome
-use Rattle.handler.specs.Handling.{Fixed, Contents}
-use Rattle.datagram.specs.Datagram.{datagramHouse}
+use Rattle.handling.specs.Handling.{Fixed, Contents}
+use Rattle.call.specs.DatagramCall.{datagramHouse}
 use Rattle.call.specs.FrameCall.{handler, frameCall, Answers, Keeps, SmallFrame, FrameChanges}
 use Rattle.call.specs.declared.FrameAnswer.{FrameAnswer}
 use Rattle.call.proofs.CallLaws.{answer-state, call-passed, event-small, event-changes}

@@ -10,7 +10,7 @@ ghost use Rattle.reception.specs.Books.{finish};
 ghost use Rattle.reception.specs.Reception.{State};
 ghost use Rattle.reception.specs.Order.{answerEvent};
 ghost use Rattle.joining.specs.Joins.{eventOf, InsidePool};
-ghost use Rattle.handler.specs.Handling.{fixed, contents};
+ghost use Rattle.handling.specs.Handling.{fixed, contents};
 ghost use Rattle.call.specs.FrameCall.{handler, Answers};
 
 // A finished datagram, handled whole.

@@ -6,7 +6,7 @@ mod frames;
 ghost use Rattle.table.specs.Table.{spacesIn};
 ghost use Rattle.frame.specs.Frame.{canFrame};
 ghost use Rattle.reception.specs.PlaceBytes.{stateIn};
-ghost use Rattle.handler.specs.Handling.{fixed, contents};
+ghost use Rattle.handling.specs.Handling.{fixed, contents};
 ghost use Rattle.call.specs.FrameCall.{frameCall, Answers, Keeps, SmallFrame, FrameChanges, NodeOrder};
 
 // Handles a frame from the bus. The bytes of unfinished datagrams are in the pool, 72 for each place.

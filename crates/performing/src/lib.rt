@@ -9,7 +9,7 @@ ghost use Rattle.fields.specs.Commands.{restOf};
 ghost use Rattle.reply.specs.Replies.{lockReply};
 ghost use Rattle.answer.specs.Answers.{receivedOkReply, Agrees};
 ghost use Rattle.command.specs.Decoding.{requestOf};
-ghost use Rattle.performing.specs.Performing.{fixed, contents, Performed};
+ghost use Rattle.handling.specs.Performing.{fixed, contents, Performed};
 ghost use Rattle.lock.specs.Lock.{testAndSet};
 
 // 0x88: the test-and-set with the ID that a datagram has, and the lock memory afterwards as the reply.

@@ -6,13 +6,13 @@ use mathlib.Core.List.{List}
 use native.Mathlib.Omega.{arith}
 use lib.ListN.{length, take, drop}
 use Rattle.storing.specs.Storing.{OnlyWithin}
-use Rattle.access.specs.Access.{Changes}
+use Rattle.handling.specs.Access.{Changes}
 use Rattle.answer.specs.Answers.{SmallAnswer}
 use Rattle.answer.specs.declared.Answer.{Answer}
 use Rattle.answer.specs.declared.Answer.the-variants as answer
-use Rattle.datagram.specs.Datagram.{SmallHandled, HandledChanges}
-use Rattle.datagram.specs.declared.Handled.{Handled}
-use Rattle.datagram.specs.declared.Handled.the-variants as handled
+use Rattle.call.specs.DatagramCall.{SmallHandled, HandledChanges}
+use Rattle.call.specs.declared.Handled.{Handled}
+use Rattle.call.specs.declared.Handled.the-variants as handled
 use Rattle.call.specs.FrameCall.{SmallFrame, FrameChanges}
 use Rattle.call.specs.declared.FrameAnswer.{FrameAnswer}
 use Rattle.call.specs.declared.FrameAnswer.the-variants as frame

@@ -3,8 +3,8 @@ use Prim.Native.Nat.{ℕ}
 use Rattle.house.specs.HouseNumbers.{houseNumberOf}
 use Rattle.answer.specs.declared.Answer.{Answer}
 use Rattle.answer.specs.declared.Answer.the-variants as answer
-use Rattle.datagram.specs.declared.Handled.{Handled}
-use Rattle.datagram.specs.declared.Handled.the-variants as handled
+use Rattle.call.specs.declared.Handled.{Handled}
+use Rattle.call.specs.declared.Handled.the-variants as handled
 use Rattle.call.specs.declared.FrameAnswer.{FrameAnswer}
 use Rattle.call.specs.declared.FrameAnswer.the-variants as frame
 use Rattle.words.specs.Words.{numbers}

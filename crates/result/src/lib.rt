@@ -1,7 +1,7 @@
 // What comes of a call as numbers, for a caller in C.
 use answer::Answer;
 use call::FrameAnswer;
-use datagram::Handled;
+use call::Handled;
 use house::HouseNumber;
 use words::CallResult;
 use words::Words;

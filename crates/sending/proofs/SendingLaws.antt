@@ -24,7 +24,7 @@ use Rattle.fragments.proofs.CutLaws.{frames-few}
 use Rattle.answer.specs.Answers.{Result, datagramRejected, written, updateCompleted, receivedOkReply}
 use Rattle.answer.specs.declared.Answer.{Answer}
 use Rattle.answer.specs.declared.Answer.the-variants.{Rejected, Written, UpdateComplete, Replied}
-use Rattle.handler.specs.Handling.{Fixed, Contents}
+use Rattle.handling.specs.Handling.{Fixed, Contents}
 use Rattle.call.specs.FrameCall.{frameCall, Call, frameAnswerOf, frameBufferOf}
 use Rattle.call.specs.declared.FrameAnswer.{FrameAnswer}
 use Rattle.call.proofs.CallLaws.{node-order}

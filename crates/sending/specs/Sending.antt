@@ -19,7 +19,7 @@ use Rattle.transport.specs.Transport.{receivedOk, rejectedWith}
 use Rattle.answer.specs.Answers.{Result, datagramRejected, written, updateCompleted, receivedOkReply, Transport, okFlags, rejectedCode, transportOf}
 use Rattle.answer.specs.declared.Answer.{Answer}
 use Rattle.answer.specs.declared.Answer.the-variants.{Rejected, Written, UpdateComplete, Replied}
-use Rattle.handler.specs.Handling.{Fixed, Contents}
+use Rattle.handling.specs.Handling.{Fixed, Contents}
 use Rattle.call.specs.FrameCall.{handler, frameCall, Call, frameAnswerOf}
 use Rattle.call.specs.declared.FrameAnswer.{FrameAnswer}
 use Rattle.call.specs.declared.FrameAnswer.the-variants.{Refused, Ignored, Nothing, TransportRefusal, Answered}

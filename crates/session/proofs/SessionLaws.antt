@@ -4,7 +4,7 @@ use Prim.Native.Nat.{ℕ}
 use mathlib.Core.Path.{_≡_, refl, sym, ap, _∙_}
 use mathlib.Core.List.{List, [], _∷_, _++_, append-nil, append-assoc}
 use Rattle.reception.specs.Reception.{State}
-use Rattle.handler.specs.Handling.{Fixed, Contents}
+use Rattle.handling.specs.Handling.{Fixed, Contents}
 use Rattle.parsing.specs.declared.Parsed.{Parsed}
 use Rattle.input.specs.Input.{readFrom, carryAfter, carryOf, readChunks, carryAfterChunks, lastOf, given}
 use Rattle.input.specs.declared.Carry.{Carry}

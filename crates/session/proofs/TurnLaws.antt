@@ -16,7 +16,7 @@ use Rattle.reception.specs.Order.{FrameResult}
 use Rattle.reception.specs.PlaceBytes.{stateIn}
 use Rattle.house.specs.declared.HouseNumber.{HouseNumber}
 use Rattle.answer.specs.Answers.{Result}
-use Rattle.handler.specs.Handling.{Fixed, Contents, contents}
+use Rattle.handling.specs.Handling.{Fixed, Contents, contents}
 use Rattle.call.specs.FrameCall.{frameCall, Answers, Keeps}
 use Rattle.call.specs.declared.FrameAnswer.{FrameAnswer}
 use Rattle.sending.specs.Sending.{sentFor, Made}

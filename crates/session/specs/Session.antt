@@ -3,7 +3,7 @@ use Prim.Native.Nat.{ℕ}
 use mathlib.Core.Path.{_≡_}
 use mathlib.Core.List.{List, [], _∷_, _++_, map, flatten}
 use Rattle.reception.specs.Reception.{State}
-use Rattle.handler.specs.Handling.{Fixed, Contents}
+use Rattle.handling.specs.Handling.{Fixed, Contents}
 use Rattle.parsing.specs.Parsing.{parseOf}
 use Rattle.parsing.specs.declared.Parsed.{Parsed}
 use Rattle.input.specs.Input.{linesOf, readFrom, carryAfter, carryOf, lastOf, given}

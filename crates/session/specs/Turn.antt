@@ -9,7 +9,7 @@ use Rattle.buffer.specs.Buffer.{putAt}
 use Rattle.frame.specs.Frame.{sourceOf}
 use Rattle.reception.specs.Reception.{State}
 use Rattle.fragments.specs.Cutting.{carried}
-use Rattle.handler.specs.Handling.{Fixed, Contents}
+use Rattle.handling.specs.Handling.{Fixed, Contents}
 use Rattle.call.specs.FrameCall.{frameCall}
 use Rattle.sending.specs.Sending.{sentFor}
 use Rattle.gridconnect.specs.Line.{unknownText}

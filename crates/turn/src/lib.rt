@@ -2,7 +2,7 @@
 use parsing::Parsed;
 ghost use Rattle.table.specs.Table.{spacesIn};
 ghost use Rattle.reception.specs.PlaceBytes.{stateIn};
-ghost use Rattle.handler.specs.Handling.{fixed, contents};
+ghost use Rattle.handling.specs.Handling.{fixed, contents};
 ghost use Rattle.session.specs.Turn.{answerWithRoom, Prints};
 
 // A line that was read: its frame is handled and what the board sends is printed into `out` from index `at` on, or `?`. Returns the index past the

@@ -3,7 +3,7 @@
 // with `#` is printed again; `@` and a digit says how many of the board's spaces are described from there on, `@L` that the lock is held
 // before each datagram, and `@U` that it is free.
 use answer::Answer;
-use datagram::Handled;
+use call::Handled;
 use libc::STDIN_FILENO;
 use libc::STDOUT_FILENO;
 

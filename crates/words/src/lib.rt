@@ -1,6 +1,6 @@
 // The numbers of a call's result, and the two words that hold them.
 ghost use mathlib.Core.Path.{_≡_};
-ghost use Prim.Native.Nat.{min};
+ghost use Prim.Native.Nat.{min, _<_};
 ghost use Rattle.words.specs.Words.{numbers, fieldsOf, inBytes};
 
 // What comes of a call. The kinds: 0 refused by the house number `house`, 1 ignored, 2 joined and not answered, 3 refused by the transport
@@ -32,8 +32,8 @@ fn four_bytes(n: usize) -> u32
     if n < 0xFFFFFFFF { n as u32 } else { 0xFFFFFFFF }
 }
 
-// The 16 bytes of a `CallResult` as two words, least significant byte first. What each answer has in them is known, but for a few bytes, when
-// the code is compiled: so a result is made as two words, in the two registers in which it goes back.
+// The 16 bytes of a `CallResult` as two words, least significant byte first; the last of them means nothing, and is 0. What each answer has in
+// them is known, but for a few bytes, when the code is compiled: so a result is made as two words, in the two registers in which it goes back.
 pub struct Words {
     pub first: u64,
     pub second: u64,
@@ -57,7 +57,8 @@ pub fn in_fields(w: Words) -> CallResult
 
 // A kind with its numbers.
 pub fn of_kind(kind: u32, house: u8, flags: u8, code: u16, frame_count: usize) -> Words
-    ensures { λ r. ⌜ fieldsOf r ≡ inBytes (numbers kind house flags code 0 0 0 «frame_count») ⌝ }
+    ensures numbers { λ r. ⌜ fieldsOf r ≡ inBytes (numbers kind house flags code 0 0 0 «frame_count») ⌝ }
+    ensures spare { λ r. ⌜ r .second < 0x100000000000000 ⌝ }
 {
     let count = byte(frame_count);
     Words {
@@ -71,7 +72,8 @@ pub fn of_kind(kind: u32, house: u8, flags: u8, code: u16, frame_count: usize) -
 
 // A write that is done.
 pub fn of_write(index: usize, n: usize, frame_count: usize) -> Words
-    ensures { λ r. ⌜ fieldsOf r ≡ inBytes (numbers 5 0 0 0 index n 0 «frame_count») ⌝ }
+    ensures numbers { λ r. ⌜ fieldsOf r ≡ inBytes (numbers 5 0 0 0 index n 0 «frame_count») ⌝ }
+    ensures spare { λ r. ⌜ r .second < 0x100000000000000 ⌝ }
 {
     let at = four_bytes(index);
     let len = byte(n);
@@ -84,7 +86,8 @@ pub fn of_write(index: usize, n: usize, frame_count: usize) -> Words
 
 // A reply.
 pub fn of_reply(n: usize, frame_count: usize) -> Words
-    ensures { λ r. ⌜ fieldsOf r ≡ inBytes (numbers 6 0 0x80 0 0 0 n «frame_count») ⌝ }
+    ensures numbers { λ r. ⌜ fieldsOf r ≡ inBytes (numbers 6 0 0x80 0 0 0 n «frame_count») ⌝ }
+    ensures spare { λ r. ⌜ r .second < 0x100000000000000 ⌝ }
 {
     let len = byte(n);
     let count = byte(frame_count);

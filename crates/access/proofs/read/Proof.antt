@@ -2,7 +2,7 @@
 -- Assumes nothing.
 use mathlib.Core.Bool.{false}
 use Rattle.reach.proofs.Laws.{told, low-told}
-use Rattle.access.proofs.Laws.{read-fails, read-reaches}
+use Rattle.handling.proofs.AccessLaws.{read-fails, read-reaches}
 use borrow.Author.Needs.{needs}
 use Rattle.access.proofs.read.Statement.{statement}
 use Rattle.access.proofs.read.Tie as tie

@@ -5,7 +5,7 @@ use lib.ListN.{length}
 use Rattle.reach.proofs.Laws.{told, low-told, writes-fit}
 use Rattle.storing.specs.Storing.{storeBytes}
 use Rattle.storing.proofs.Laws.{bytes-within}
-use Rattle.access.proofs.Laws.{write-fails, write-reaches}
+use Rattle.handling.proofs.AccessLaws.{write-fails, write-reaches}
 use borrow.Author.Needs.{needs}
 use Rattle.access.proofs.write.Statement.{statement}
 use Rattle.access.proofs.write.Tie as tie

@@ -8,7 +8,7 @@ use Rattle.fields.proofs.Laws.{pairs-length}
 use Rattle.reach.proofs.Laws.{told, low-told}
 use Rattle.storing.specs.Storing.{storeMasked}
 use Rattle.storing.proofs.Laws.{pairs-within}
-use Rattle.access.proofs.Laws.{write-fails, write-reaches}
+use Rattle.handling.proofs.AccessLaws.{write-fails, write-reaches}
 use borrow.Author.Needs.{needs}
 use Rattle.access.proofs.write_masked.Statement.{statement}
 use Rattle.access.proofs.write_masked.Tie as tie

@@ -3,7 +3,7 @@
 use Rattle.table.specs.Table.{spacesIn}
 use Rattle.frame.specs.Frame.{canFrame, sourceOf}
 use Rattle.reception.specs.PlaceBytes.{stateIn}
-use Rattle.handler.specs.Handling.{fixed, contents}
+use Rattle.handling.specs.Handling.{fixed, contents}
 use Rattle.call.specs.FrameCall.{frameCall}
 use Rattle.sending.proofs.SendingLaws.{sent-is, bus-order}
 use borrow.Author.Needs.{needs}

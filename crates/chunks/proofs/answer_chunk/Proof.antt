@@ -7,7 +7,7 @@ use lib.ListN.{length}
 use borrow.Author.Needs.{needs}
 use Rattle.table.specs.Table.{spacesIn}
 use Rattle.reception.specs.PlaceBytes.{stateIn}
-use Rattle.handler.specs.Handling.{fixed, contents}
+use Rattle.handling.specs.Handling.{fixed, contents}
 use Rattle.room.proofs.RoomLaws.{room-none, room-there}
 use Rattle.session.proofs.SessionLaws.{any-chunks}
 use Rattle.chunks.proofs.ChunkLaws.{Going, going-start, going-next, going-full, going-end, step-onward}

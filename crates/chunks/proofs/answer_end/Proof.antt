@@ -2,7 +2,7 @@
 -- Assumes nothing.
 use Rattle.table.specs.Table.{spacesIn}
 use Rattle.reception.specs.PlaceBytes.{stateIn}
-use Rattle.handler.specs.Handling.{fixed, contents}
+use Rattle.handling.specs.Handling.{fixed, contents}
 use lib.ListN.{length}
 use Rattle.room.proofs.RoomLaws.{room-none, room-there}
 use Rattle.chunks.proofs.ChunkLaws.{end-none, end-line}

@@ -3,8 +3,8 @@
 use mathlib.Core.Path.{refl}
 use Rattle.house.proofs.Laws.{tested-bad, tested-good}
 use Rattle.table.specs.Table.{spacesIn}
-use Rattle.handler.specs.Handling.{fixed, contents}
-use Rattle.datagram.proofs.Laws.{by-sizes, call-refused, call-answered, call-small, call-changes}
+use Rattle.handling.specs.Handling.{fixed, contents}
+use Rattle.call.proofs.DatagramLaws.{by-sizes, call-refused, call-answered, call-small, call-changes}
 use borrow.Author.Needs.{needs}
 use Rattle.datagram.proofs.handle_datagram.Statement.{statement}
 use Rattle.datagram.proofs.handle_datagram.Tie as tie

@@ -3,8 +3,8 @@
 use mathlib.Core.Path.{_≡_, refl, sym, ap, _∙_}
 use Rattle.table.specs.Table.{spacesIn}
 use Rattle.command.specs.Decoding.{readingOf}
-use Rattle.handler.specs.Handling.{fixed, contents, handle}
-use Rattle.handler.proofs.Laws.{request-handled, handle-bounds}
+use Rattle.handling.specs.Handling.{fixed, contents, handle}
+use Rattle.handling.proofs.HandlingLaws.{request-handled, handle-bounds}
 use borrow.Author.Needs.{needs}
 use Rattle.handler.proofs.handle.Statement.{statement}
 use Rattle.handler.proofs.handle.Tie as tie

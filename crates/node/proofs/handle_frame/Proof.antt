@@ -8,8 +8,8 @@ use Rattle.frame.specs.Frame.{canFrame}
 use Rattle.reception.specs.Reception.{receive}
 use Rattle.reception.specs.PlaceBytes.{stateIn}
 use Rattle.reception.proofs.ByteLaws.{renewed-same}
-use Rattle.handler.specs.Handling.{fixed, contents}
-use Rattle.datagram.proofs.Laws.{by-sizes, house-buffer}
+use Rattle.handling.specs.Handling.{fixed, contents}
+use Rattle.call.proofs.DatagramLaws.{by-sizes, house-buffer}
 use Rattle.call.proofs.CallLaws.{call-refused, node-order}
 use Rattle.node.proofs.FrameLaws.{call-joined, call-keeps, call-small, call-changes}
 use borrow.Author.Needs.{needs}

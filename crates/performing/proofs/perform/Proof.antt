@@ -1,7 +1,7 @@
 -- `perform` meets its contract: each command by its own function.
 -- Assumes nothing.
 use mathlib.Core.Path.{refl}
-use Rattle.performing.specs.Performing.{perform}
+use Rattle.handling.specs.Performing.{perform}
 use borrow.Author.Needs.{needs}
 use Rattle.performing.proofs.perform.Statement.{statement}
 use Rattle.performing.proofs.perform.Tie as tie

@@ -5,7 +5,7 @@ use Rattle.result.proofs.words_of_handled.Statement.{statement}
 use Rattle.result.proofs.words_of_handled.Tie as tie
 
 returns : tie.Need-returns
-returns c = rw (c .before .before .before .handled .given .1, ← c .before .house-number .ensures) (c .of-kind .ensures)
+returns c = rw (c .before .before .before .handled .given .1, ← c .before .house-number .ensures) (c .of-kind .ensures .0)
 
 returns-2 : tie.Need-returns-2
 returns-2 c = rw (c .before .before .handled2 .given .1) (c .of-answer .ensures)

@@ -5,7 +5,7 @@ use borrow.Author.Needs.{needs}
 use borrow.Author.Tests.{not-true, not-false}
 use Rattle.table.specs.Table.{spacesIn}
 use Rattle.reception.specs.PlaceBytes.{stateIn}
-use Rattle.handler.specs.Handling.{fixed, contents}
+use Rattle.handling.specs.Handling.{fixed, contents}
 use Rattle.room.proofs.RoomLaws.{room-none, room-there}
 use Rattle.session.proofs.TurnLaws.{line-none, line-unknown, line-handled}
 use Rattle.turn.proofs.answer_line.Statement.{statement}

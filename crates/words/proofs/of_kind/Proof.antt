@@ -11,9 +11,11 @@ use Rattle.words.proofs.of_kind.Tie as tie
 returns : tie.Need-returns
 returns c =
     let a = c .before .args in
-    let e = c .byte .ensures in
-    sum-fields (a .kind) (a .house) (a .flags) (a .code) 0 0 0 (min (a .frame-count) 255) (omega arith) (omega arith) (omega arith) (omega arith) (omega arith) (omega arith) (omega arith)
-    (omega arith) _ refl (omega (arith, e))
+    let e = c .byte .ensures in (
+      sum-fields (a .kind) (a .house) (a .flags) (a .code) 0 0 0 (min (a .frame-count) 255) (omega arith) (omega arith) (omega arith) (omega arith) (omega arith) (omega arith) (omega arith)
+          (omega arith) _ refl (omega (arith, e)),
+      omega (arith, e),
+    )
 
 pub of-kind-spec : {M : Type 1} → statement M
 of-kind-spec =

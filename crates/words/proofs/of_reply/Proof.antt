@@ -12,9 +12,11 @@ returns : tie.Need-returns
 returns c =
     let a = c .before .before .args in
     let e = c .byte2 .ensures in
-    let f = c .before .byte .ensures in
-    sum-fields 6 0 0x80 0 0 0 (min (a .n) 255) (min (a .frame-count) 255) (omega arith) (omega arith) (omega arith) (omega arith) (omega arith) (omega arith) (omega arith) (omega arith)
-    _ refl (omega (arith, e, f))
+    let f = c .before .byte .ensures in (
+      sum-fields 6 0 0x80 0 0 0 (min (a .n) 255) (min (a .frame-count) 255) (omega arith) (omega arith) (omega arith) (omega arith) (omega arith) (omega arith) (omega arith) (omega arith)
+          _ refl (omega (arith, e, f)),
+      omega (arith, e, f),
+    )
 
 pub of-reply-spec : {M : Type 1} → statement M
 of-reply-spec =

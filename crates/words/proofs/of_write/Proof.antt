@@ -13,9 +13,11 @@ returns c =
     let a = c .before .before .before .args in
     let e = c .byte2 .ensures in
     let f = c .before .byte .ensures in
-    let g = c .before .before .four-bytes .ensures in
-    sum-fields 5 0 0 0 (min (a .index) 0xFFFFFFFF) (min (a .n) 255) 0 (min (a .frame-count) 255) (omega arith) (omega arith) (omega arith) (omega arith) (omega arith) (omega arith) (omega arith)
-    (omega arith) _ refl (omega (arith, e, f, g))
+    let g = c .before .before .four-bytes .ensures in (
+      sum-fields 5 0 0 0 (min (a .index) 0xFFFFFFFF) (min (a .n) 255) 0 (min (a .frame-count) 255) (omega arith) (omega arith) (omega arith) (omega arith) (omega arith) (omega arith) (omega arith)
+          (omega arith) _ refl (omega (arith, e, f, g)),
+      omega (arith, e, f, g),
+    )
 
 pub of-write-spec : {M : Type 1} → statement M
 of-write-spec =

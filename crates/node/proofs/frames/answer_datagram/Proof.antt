@@ -1,7 +1,7 @@
 -- `answer_datagram` meets its contract.
 -- Assumes nothing.
 use Rattle.table.specs.Table.{spacesIn}
-use Rattle.handler.specs.Handling.{fixed, contents}
+use Rattle.handling.specs.Handling.{fixed, contents}
 use Rattle.call.proofs.CallLaws.{answers-finish}
 use borrow.Author.Needs.{needs}
 use Rattle.node.proofs.frames.answer_datagram.Statement.{statement}

@@ -1,4 +1,4 @@
--- A datagram handled whole. What a request does, and the records that this speaks of, are those of the crate `performing`, passed on here.
+-- A datagram handled whole. What a request does, and the records that this speaks of, are those of `Performing`, passed on here.
 use Prim.Native.Nat.{ℕ, _+_, _≤_}
 use mathlib.Core.Path.{_≡_}
 use mathlib.Core.List.{List}
@@ -8,9 +8,9 @@ use Rattle.house.specs.declared.HouseNumber.the-variants.{Good}
 use Rattle.command.specs.Decoding.{Reading, rejected, request, decode}
 use Rattle.answer.specs.Answers.{Result, datagramRejected, written, updateCompleted, receivedOkReply, answerOf, Agrees}
 use Rattle.answer.specs.declared.Answer.{Answer}
-use Rattle.access.specs.Access.{Changes}
-pub use Rattle.performing.specs.Performing.{Fixed, fixed, Contents, contents, Outcome, outcome}
-unfoldable pub use Rattle.performing.specs.Performing.{perform}
+use Rattle.handling.specs.Access.{Changes}
+pub use Rattle.handling.specs.Performing.{Fixed, fixed, Contents, contents, Outcome, outcome}
+unfoldable pub use Rattle.handling.specs.Performing.{perform}
 
 -- A datagram handled whole. A rejected one leaves everything as it was.
 abbrev pub answerReading : Fixed → Contents → Reading → Outcome

@@ -13,7 +13,7 @@ use Rattle.reach.specs.Reach.{indexOf}
 use Rattle.reach.specs.declared.Access.{Access}
 use Rattle.reach.specs.declared.Access.the-variants.{Fails, Reaches}
 use Rattle.storing.specs.Storing.{OnlyWithin}
-use Rattle.access.specs.Access.{bytesRead, readResult, writeResult, memoryAfter, Changes, Writes}
+use Rattle.handling.specs.Access.{bytesRead, readResult, writeResult, memoryAfter, Changes, Writes}
 
 -- ---- the answers, by what is reached
 

@@ -16,11 +16,11 @@ use Rattle.house.proofs.Laws.{is-good, bad, orElse-good, good-limits}
 use Rattle.description.specs.Calls.{bufferHouse, callHouse}
 use Rattle.answer.specs.Answers.{Result, datagramRejected, written, updateCompleted, receivedOkReply, answerOf, bufferOf, fitted, SmallAnswer}
 use Rattle.answer.specs.declared.Answer.{Answer}
-use Rattle.access.specs.Access.{Changes}
-use Rattle.handler.specs.Handling.{Fixed, Contents, handle, Short, Inside, Performs}
-use Rattle.handler.proofs.Laws.{whole, handle-bounds}
-use Rattle.datagram.specs.Datagram.{datagramHouse, datagramCall, Ends}
-use Rattle.datagram.specs.declared.Handled.the-variants.{Refused, Answered}
+use Rattle.handling.specs.Access.{Changes}
+use Rattle.handling.specs.Handling.{Fixed, Contents, handle, Short, Inside, Performs}
+use Rattle.handling.proofs.HandlingLaws.{whole, handle-bounds}
+use Rattle.call.specs.DatagramCall.{datagramHouse, datagramCall, Ends}
+use Rattle.call.specs.declared.Handled.the-variants.{Refused, Answered}
 
 -- ---- no house number of a whole datagram
 

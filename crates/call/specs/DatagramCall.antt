@@ -8,10 +8,10 @@ use Rattle.house.specs.HouseNumbers.{isGood}
 use Rattle.house.specs.declared.HouseNumber.{HouseNumber}
 use Rattle.description.specs.Calls.{callHouse}
 use Rattle.answer.specs.Answers.{answerOf, bufferOf, SmallAnswer}
-use Rattle.access.specs.Access.{Changes}
-use Rattle.handler.specs.Handling.{Fixed, Contents, Outcome, handle}
-use Rattle.datagram.specs.declared.Handled.{Handled}
-use Rattle.datagram.specs.declared.Handled.the-variants.{Refused, Answered}
+use Rattle.handling.specs.Access.{Changes}
+use Rattle.handling.specs.Handling.{Fixed, Contents, Outcome, handle}
+use Rattle.call.specs.declared.Handled.{Handled}
+use Rattle.call.specs.declared.Handled.the-variants.{Refused, Answered}
 
 -- The first of B1 to B6 that applies.
 unfoldable pub datagramHouse : Fixed → List ℕ → List ℕ → HouseNumber

@@ -21,18 +21,18 @@ use Rattle.command.specs.Decoding.{Reading, rejected, request, decode}
 use Rattle.command.proofs.Laws.{Allowed, allowed}
 use Rattle.head.specs.Head.{replyHead}
 use Rattle.inquiry.specs.Inquiry.{informationReply, accessFlag}
-use Rattle.answer.specs.Answers.{Result, datagramRejected, written, updateCompleted, receivedOkReply, fitted}
+use Rattle.answer.specs.Answers.{Result, datagramRejected, written, updateCompleted, receivedOkReply, fitted, answerOf, okFlags, transportOf}
 use Rattle.answer.specs.declared.Answer.{Answer}
 use Rattle.reach.specs.Reach.{access}
 use Rattle.reach.proofs.Laws.{writes-fit}
 use Rattle.storing.specs.Storing.{storeBytes, storeMasked, OnlyWithin}
 use Rattle.storing.proofs.Laws.{bytes-within, pairs-within}
-use Rattle.access.specs.Access.{readResult, writeResult}
+use Rattle.handling.specs.Access.{readResult, writeResult}
 use Rattle.reach.specs.declared.Access.{Access}
 use Rattle.reach.specs.declared.Access.the-variants.{Fails, Reaches}
-use Rattle.access.proofs.Laws.{write-changes}
-use Rattle.performing.specs.Performing.{Fixed, Contents, foundIn, outcome, writeOutcome, perform, SixBytes, Performed}
-use Rattle.handler.specs.Handling.{answerReading, handle, Short, Performs, Inside, Bounds, HandleBounds}
+use Rattle.handling.proofs.AccessLaws.{write-changes}
+use Rattle.handling.specs.Performing.{Fixed, Contents, foundIn, outcome, writeOutcome, perform, Announced, SixBytes, Performed}
+use Rattle.handling.specs.Handling.{answerReading, handle, Short, Performs, Inside, Bounds, HandleBounds}
 
 -- ---- the lengths of the replies
 
@@ -97,6 +97,23 @@ whole (datagramRejected code) buffer s h = refl
 whole (written index n) buffer s h = refl
 whole updateCompleted buffer s h = refl
 whole (receivedOkReply reply) buffer s h = rw (le-leb (length reply) (length buffer) (omega (arith, s, h)))
+
+-- ---- a reply is announced
+
+read-announced : (flash memory : List ℕ) (form : Form) (space address count : ℕ) (a : Access) → transportOf (answerOf (readResult flash memory form space address count a)) ≡ okFlags 0x80
+unfolding readResult
+read-announced flash memory form space address count (Fails code) = refl
+read-announced flash memory form space address count (Reaches s) = refl
+
+pub announced : (x : Fixed) (c : Contents) (form : Form) (q : Request) → Announced q (perform x c form q .result)
+unfolding perform
+announced x c form (read space address count) = read-announced (x .flash) (c .memory) form space address count (access false (foundIn x space) address 1)
+announced x c form (write space address bytes) = tt
+announced x c form (writeMasked space address pairs) = tt
+announced x c form options = refl
+announced x c form (information space) = refl
+announced x c form (reserve id) = refl
+announced x c form updateComplete = tt
 
 -- ---- the bytes that an outcome changes
 

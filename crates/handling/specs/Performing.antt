@@ -12,11 +12,11 @@ use Rattle.fields.specs.declared.Form.{Form}
 use Rattle.lock.specs.Lock.{testAndSet}
 use Rattle.reply.specs.Replies.{lockReply}
 use Rattle.inquiry.specs.Inquiry.{optionsReply, informationReply}
-use Rattle.answer.specs.Answers.{Result, updateCompleted, receivedOkReply, Agrees}
+use Rattle.answer.specs.Answers.{Result, updateCompleted, receivedOkReply, answerOf, okFlags, transportOf, Agrees}
 use Rattle.answer.specs.declared.Answer.{Answer}
 use Rattle.reach.specs.Reach.{access}
 use Rattle.storing.specs.Storing.{storeBytes, storeMasked}
-use Rattle.access.specs.Access.{readResult, writeResult, memoryAfter}
+use Rattle.handling.specs.Access.{readResult, writeResult, memoryAfter}
 
 -- What stays the same over a session: the description, "the board's alias, one Write Lengths byte sent as given, and 0 to 16 spaces in
 -- order", and flash.
@@ -68,6 +68,17 @@ perform x c form options = outcome (receivedOkReply (optionsReply (x .writeLengt
 perform x c form (information space) = outcome (receivedOkReply (informationReply space (foundIn x space))) c
 perform x c form (reserve id) = lockOutcome c (testAndSet (c .lock) id)
 perform x c form updateComplete = outcome updateCompleted c
+
+-- A read is answered with "Received OK 0x80, then a reply", and "0x80, 0x84 and 0x88 answer Received OK 0x80 before the reply": no board that sends
+-- Received OK 0x00 to all does.
+abbrev pub Announced : Request → Result → Type 0
+Announced (read space address count) r = transportOf (answerOf r) ≡ okFlags 0x80
+Announced (write space address bytes) r = Unit {0}
+Announced (writeMasked space address pairs) r = Unit {0}
+Announced options r = transportOf (answerOf r) ≡ okFlags 0x80
+Announced (information space) r = transportOf (answerOf r) ≡ okFlags 0x80
+Announced (reserve id) r = transportOf (answerOf r) ≡ okFlags 0x80
+Announced updateComplete r = Unit {0}
 
 -- ---- what the code gives back
 

@@ -1,0 +1,3 @@
+pub mod Access
+pub mod Handling
+pub mod Performing
