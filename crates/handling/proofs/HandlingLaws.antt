@@ -113,7 +113,7 @@ announced x c form (writeMasked space address pairs) = tt
 announced x c form options = refl
 announced x c form (information space) = refl
 announced x c form (reserve id) = refl
-announced x c form updateComplete = tt
+announced x c form updateComplete = refl
 
 -- ---- the bytes that an outcome changes
 

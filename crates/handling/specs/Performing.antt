@@ -70,7 +70,7 @@ perform x c form (reserve id) = lockOutcome c (testAndSet (c .lock) id)
 perform x c form updateComplete = outcome updateCompleted c
 
 -- A read is answered with "Received OK 0x80, then a reply", and "0x80, 0x84 and 0x88 answer Received OK 0x80 before the reply": no board that sends
--- Received OK 0x00 to all does.
+-- Received OK 0x00 to all does. 0xA8 has an answer of its own, which is no write's.
 abbrev pub Announced : Request → Result → Type 0
 Announced (read space address count) r = transportOf (answerOf r) ≡ okFlags 0x80
 Announced (write space address bytes) r = Unit {0}
@@ -78,7 +78,7 @@ Announced (writeMasked space address pairs) r = Unit {0}
 Announced options r = transportOf (answerOf r) ≡ okFlags 0x80
 Announced (information space) r = transportOf (answerOf r) ≡ okFlags 0x80
 Announced (reserve id) r = transportOf (answerOf r) ≡ okFlags 0x80
-Announced updateComplete r = Unit {0}
+Announced updateComplete r = r ≡ updateCompleted
 
 -- ---- what the code gives back
 

@@ -1,20 +1,11 @@
 // Frames joined into datagrams.
+use outcome::Outcome;
 ghost use Rattle.frame.specs.Frame.{canFrame};
 ghost use Rattle.reception.specs.Reception.{receive};
 ghost use Rattle.reception.specs.PlaceBytes.{stateIn};
-ghost use Rattle.joining.specs.Joins.{Joins};
+ghost use Rattle.outcome.specs.Joins.{Joins};
 
 mod unfinished;
-
-// What a frame brings about. A finished datagram is the frame's own data, or the part of the pool from the first number up to the second.
-pub enum Outcome {
-    BadState,
-    Ignored,
-    NoAnswer,
-    Refuse(u16),
-    InFrame,
-    InPool(usize, usize),
-}
 
 // A frame received by the board with that alias: what it brings about, and the places and the pool afterwards. B7 is tested first. Data
 // over 8 bytes are ignored here already, so that what joins a frame can count on at most 8.

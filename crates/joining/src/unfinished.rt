@@ -1,6 +1,6 @@
 // A frame joined to the unfinished datagram of its source: opened, appended to, closed or dropped.
-use super::Outcome;
 use frame::Role;
+use outcome::Outcome;
 use step::Step;
 ghost use mathlib.Core.Path.{_≡_};
 ghost use mathlib.Core.Bool.{true, false};
@@ -10,8 +10,8 @@ ghost use Rattle.step.specs.declared.Step.the-variants as does;
 ghost use Rattle.reception.specs.Place.{freePlace};
 ghost use Rattle.reception.specs.Reception.{placeOf, sound, joinSound};
 ghost use Rattle.reception.specs.PlaceBytes.{placesIn, placeBytes, stateIn};
-ghost use Rattle.joining.specs.Joins.{Joins};
-ghost use Rattle.joining.specs.Inner.{Lent, Fitting, performed};
+ghost use Rattle.outcome.specs.Joins.{Joins};
+ghost use Rattle.outcome.specs.Inner.{Lent, Fitting, performed};
 
 // The bytes of the pool for each place.
 const ROOM: usize = 72;

@@ -10,9 +10,9 @@ use Rattle.house.proofs.Laws.{is-good}
 use Rattle.frame.specs.Frame.{CanFrame}
 use Rattle.reception.specs.Reception.{State, receive}
 use Rattle.reception.specs.Order.{answerEvent, handleFrame}
-use Rattle.joining.specs.Joins.{eventOf, InsidePool, Joins}
-use Rattle.joining.specs.declared.Outcome.{Outcome}
-use Rattle.joining.specs.declared.Outcome.the-variants as outcome
+use Rattle.outcome.specs.Joins.{eventOf, InsidePool, Joins}
+use Rattle.outcome.specs.declared.Outcome.{Outcome}
+use Rattle.outcome.specs.declared.Outcome.the-variants as outcome
 use Rattle.handling.specs.Handling.{Fixed, Contents}
 use Rattle.call.specs.DatagramCall.{datagramHouse}
 use Rattle.call.specs.FrameCall.{handler, frameCall, Answers, Keeps, SmallFrame, FrameChanges}

@@ -1,7 +1,7 @@
 // What a joined frame brings about, answered.
 use call::FrameAnswer;
 use house::HouseNumber;
-use joining::Outcome;
+use outcome::Outcome;
 ghost use mathlib.Core.Path.{_≡_};
 ghost use Prim.Native.Nat.{_≤_};
 ghost use lib.ListN.{length};
@@ -9,7 +9,7 @@ ghost use Rattle.table.specs.Table.{spacesIn};
 ghost use Rattle.reception.specs.Books.{finish};
 ghost use Rattle.reception.specs.Reception.{State};
 ghost use Rattle.reception.specs.Order.{answerEvent};
-ghost use Rattle.joining.specs.Joins.{eventOf, InsidePool};
+ghost use Rattle.outcome.specs.Joins.{eventOf, InsidePool};
 ghost use Rattle.handling.specs.Handling.{fixed, contents};
 ghost use Rattle.call.specs.FrameCall.{handler, Answers};
 

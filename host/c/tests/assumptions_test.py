@@ -12,7 +12,7 @@ import sys
 ROW = re.compile(r"\| [^|]* \| (`[^|]*\.antt`) \| (\d+) \|")
 FILE = re.compile(r"`([a-z]+/specs/[A-Za-z]+\.antt)`")
 # Definitions of a crate's inside, and the paper's examples: the page names them as crates.
-INSIDE = ("joining/", "sources/", "step/", "demonstration/")
+INSIDE = ("outcome/", "sources/", "step/", "demonstration/")
 
 
 def lines_of(path):

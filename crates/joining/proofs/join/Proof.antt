@@ -3,7 +3,7 @@
 use borrow.Author.Needs.{needs}
 use Rattle.reception.specs.PlaceBytes.{placesIn}
 use Rattle.reception.proofs.ByteLaws.{places-length}
-use Rattle.joining.proofs.JoinLaws.{looked-not-sound, looked-sound, bad-joins, long-joins, sound-joins}
+use Rattle.outcome.proofs.JoinLaws.{looked-not-sound, looked-sound, bad-joins, long-joins, sound-joins}
 use Rattle.joining.proofs.join.Statement.{statement}
 use Rattle.joining.proofs.join.Tie as tie
 

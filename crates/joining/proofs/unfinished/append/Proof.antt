@@ -3,7 +3,7 @@
 use mathlib.Core.Path.{refl}
 use mathlib.Core.Bool.{false}
 use borrow.Author.Needs.{needs}
-use Rattle.joining.proofs.JoinLaws.{append-done}
+use Rattle.outcome.proofs.JoinLaws.{append-done}
 use Rattle.joining.proofs.unfinished.append.Statement.{statement}
 use Rattle.joining.proofs.unfinished.append.Tie as tie
 

@@ -3,7 +3,7 @@
 use mathlib.Core.Bool.{true}
 use native.Mathlib.Omega.{arith}
 use borrow.Author.Needs.{needs}
-use Rattle.joining.proofs.JoinLaws.{close-done}
+use Rattle.outcome.proofs.JoinLaws.{close-done}
 use Rattle.joining.proofs.unfinished.close.Statement.{statement}
 use Rattle.joining.proofs.unfinished.close.Tie as tie
 

@@ -4,8 +4,8 @@ use mathlib.Core.Path.{sym, _∙_}
 use mathlib.Core.Bool.{true, false}
 use borrow.Author.Needs.{needs}
 use Rattle.step.specs.declared.Step.the-variants as does
-use Rattle.joining.specs.declared.Outcome.the-variants as outcome
-use Rattle.joining.proofs.JoinLaws.{stays-joins, step-joins, step-fitting, refused-joins}
+use Rattle.outcome.specs.declared.Outcome.the-variants as outcome
+use Rattle.outcome.proofs.JoinLaws.{stays-joins, step-joins, step-fitting, refused-joins}
 use Rattle.joining.proofs.unfinished.join_sound.Statement.{statement}
 use Rattle.joining.proofs.unfinished.join_sound.Tie as tie
 

@@ -1,7 +1,7 @@
 -- `joining::unfinished::open` meets its contract.
 -- Assumes nothing.
 use borrow.Author.Needs.{needs}
-use Rattle.joining.proofs.JoinLaws.{open-full, open-done}
+use Rattle.outcome.proofs.JoinLaws.{open-full, open-done}
 use Rattle.joining.proofs.unfinished.open.Statement.{statement}
 use Rattle.joining.proofs.unfinished.open.Tie as tie
 

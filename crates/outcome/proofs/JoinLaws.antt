@@ -25,10 +25,10 @@ use Rattle.reception.specs.PlaceBytes.{placesIn, placeBytes, stateIn}
 use Rattle.reception.proofs.PlaceLaws.{isFor-held, good-short, sound-good, place-found, place-out, free, free-out, blank-of}
 use Rattle.reception.proofs.ByteLaws.{places-length, renewed-same, Changed, changed-places, changed-bytes, differ-held, differ-len}
 use Rattle.sources.specs.Search.{lookedUp}
-use Rattle.joining.specs.declared.Outcome.{Outcome}
-use Rattle.joining.specs.declared.Outcome.the-variants as outcome
-use Rattle.joining.specs.Joins.{eventOf, InsidePool, Joins}
-use Rattle.joining.specs.Inner.{Lent, Fitting, performed}
+use Rattle.outcome.specs.declared.Outcome.{Outcome}
+use Rattle.outcome.specs.declared.Outcome.the-variants as outcome
+use Rattle.outcome.specs.Joins.{eventOf, InsidePool, Joins}
+use Rattle.outcome.specs.Inner.{Lent, Fitting, performed}
 
 -- the state stays as it was
 pub stays-joins : (d pool xs : List ℕ) (o : Outcome) → InsidePool o → Joins (joined (stateIn xs pool) (eventOf o d pool)) d o xs xs pool

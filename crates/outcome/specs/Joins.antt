@@ -6,8 +6,8 @@ use lib.ListN.{take, drop}
 use Rattle.reception.specs.Books.{Event, ignored, noAnswer, refuse, finish, badState}
 use Rattle.reception.specs.Reception.{Joined}
 use Rattle.reception.specs.PlaceBytes.{placesIn, renewed}
-use Rattle.joining.specs.declared.Outcome.{Outcome}
-use Rattle.joining.specs.declared.Outcome.the-variants as outcome
+use Rattle.outcome.specs.declared.Outcome.{Outcome}
+use Rattle.outcome.specs.declared.Outcome.the-variants as outcome
 
 -- An outcome of the code, beside the frame's data and the pool that it speaks of.
 abbrev pub eventOf : Outcome → List ℕ → List ℕ → Event
