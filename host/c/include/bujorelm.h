@@ -2,7 +2,7 @@
  * bujorelm.h - the board's side of OpenLCB memory configuration, for a CAN driver in C.
  *
  * Platform:  x86-64 with the System V calling convention, as on Linux.
- * Toolchain: rattle-kit-5b, logic 064da1ca440f63e7 (`rt version`); the archive is built by `rt staticlib driver`.
+ * Toolchain: Rattle, in the version that docs/ASSUMPTIONS.md names; the archive is built by `rt staticlib driver`.
  *
  * The archive libdriver.a holds machine code for x86-64 and for nothing else today. It cannot be linked into the firmware of a board with
  * another processor, such as an ARM Cortex-M: that needs a backend of the toolchain for that processor, and then the layout below has to
