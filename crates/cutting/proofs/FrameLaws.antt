@@ -1,6 +1,6 @@
--- Laws of frames in lent bytes, one behind the other.
+-- Laws of frames in lent bytes, one behind the other, and of two aliases in one number.
 -- Assumes nothing.
-use Prim.Native.Nat.{ℕ, _+_, _*_, _≤_}
+use Prim.Native.Nat.{ℕ, _+_, _*_, _/_, _%_, _≤_}
 use mathlib.Core.Path.{_≡_, refl, ap, _∙_}
 use mathlib.Core.List.{List, [], _∷_, append-nil}
 use native.Mathlib.Nat.{zero-add}
@@ -10,8 +10,21 @@ use Rattle.buffer.specs.Buffer.{over, putAt}
 use Rattle.buffer.proofs.Laws.{put-behind, put-first}
 use Rattle.frame.specs.declared.Frame.{Frame}
 use Rattle.frame.specs.Frame.{frameOf}
+use Rattle.fragments.specs.Cutting.{framesOf}
 use Rattle.layout.specs.Layout.{frameBytes, framesBytes, framePlaced}
 use Rattle.layout.proofs.LayoutLaws.{frame-length, frame-fits}
+
+-- where both aliases are found again in one number, its frames are theirs
+module _ (destination source : ℕ) (xs : List ℕ) (n both : ℕ) where
+  pub few-in-one : both / 4096 ≡ destination → both % 4096 ≡ source → n + length (framesOf destination source xs) ≤ 10
+      → n + length (framesOf (both / 4096) (both % 4096) xs) ≤ 10
+  few-in-one d s h = rw (d, s) h
+
+  pub made-in-one : (before : List ℕ) {after : List ℕ} {r : ℕ}
+      → (r ≡ n + length (framesOf (both / 4096) (both % 4096) xs)) × (after ≡ putAt (16 * n) (framesBytes (framesOf (both / 4096) (both % 4096) xs)) before)
+      → both / 4096 ≡ destination → both % 4096 ≡ source
+      → (r ≡ n + length (framesOf destination source xs)) × (after ≡ putAt (16 * n) (framesBytes (framesOf destination source xs)) before)
+  made-in-one before made d s = rw (d, s) at made
 
 module _ (n : ℕ) (fs : List Frame) (before : List ℕ) (room : 16 * (n + length fs) ≤ length before) {after : List ℕ} where
   -- the one frame of fs, put as frame n

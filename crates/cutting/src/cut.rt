@@ -1,6 +1,6 @@
 // A datagram cut into frames that are put into lent bytes from a given frame on.
 ghost use mathlib.Core.Path.{_≡_};
-ghost use Prim.Native.Nat.{_+_, _*_, _≤_, _<_};
+ghost use Prim.Native.Nat.{_+_, _*_, _/_, _%_, _≤_, _<_};
 ghost use lib.ListN.{length};
 ghost use Rattle.buffer.specs.Buffer.{putAt};
 ghost use Rattle.frame.specs.Frame.{headerOf};
@@ -16,48 +16,44 @@ const MIDDLE: u32 = 0x1C;
 
 const LAST: u32 = 0x1D;
 
-// Puts the frame of that kind from the source to the destination as frame n; the number of the next is returned.
-fn put_fragment(
-    out: &mut [u8],
-    n: usize,
-    kind: u32,
-    destination: u16,
-    source: u16,
-    part: &[u8],
-) -> usize
-    requires { ⌜ (kind < 32) × (destination ≤ 4095) × (source ≤ 4095) × (16 * n ≤ length (now out)) ⌝ }
+// Puts the frame of that kind as frame n; the number of the next is returned. Here and below `aliases` is what the headers of a datagram's
+// frames share: the destination's 12 bits and then the source's. One number instead of two, and lent bytes of a known length, leave less for
+// each call to hand on.
+fn put_fragment(frames: &mut [u8; 160], n: usize, kind: u32, aliases: u32, part: &[u8]) -> usize
+    requires { ⌜ (kind < 32) × (aliases < 16777216) × (n ≤ 10) ⌝ }
     ensures next { λ r. ⌜ r ≡ n + 1 ⌝ }
-    ensures bytes { λ _. ⌜ now (out .exit) ≡ framePlaced n (headerOf kind destination source) (now (part .entry)) (now (out .entry)) ⌝ }
+    ensures bytes { λ _. ⌜ now (frames .exit) ≡ framePlaced n (headerOf kind (aliases / 4096) (aliases % 4096)) (now (part .entry)) (now (frames .entry)) ⌝ }
+    ensures size { λ _. ⌜ length (now (frames .entry)) ≡ 160 ⌝ }
 {
-    let header = kind * 0x1000000 + destination as u32 * 0x1000 + source as u32;
-    layout::put_frame(out, n, header, part);
+    let header = kind * 0x1000000 + aliases;
+    layout::put_frame(frames, n, header, part);
     n + 1
 }
 
 // Of more than 8 bytes the first 8 go in a Middle, and what is left is cut by the same rule; 1 to 8 go in a Last. The frames are put
-// into `out` from frame n on; the number of all is returned.
-pub fn cut_rest(rest: &[u8], destination: u16, source: u16, out: &mut [u8], n: usize) -> usize
-    requires { ⌜ (destination ≤ 4095) × (source ≤ 4095) × (16 * (n + length (restFrames destination source (now rest))) ≤ length (now out)) ⌝ }
-    ensures count { λ r. ⌜ r ≡ n + length (restFrames destination source (now (rest .entry))) ⌝ }
-    ensures bytes { λ _. ⌜ now (out .exit) ≡ putAt (16 * n) (framesBytes (restFrames destination source (now (rest .entry)))) (now (out .entry)) ⌝ }
+// into the lent bytes from frame n on; the number of all is returned.
+pub fn cut_rest(rest: &[u8], aliases: u32, frames: &mut [u8; 160], n: usize) -> usize
+    requires { ⌜ (aliases < 16777216) × (n + length (restFrames (aliases / 4096) (aliases % 4096) (now rest)) ≤ 10) ⌝ }
+    ensures count { λ r. ⌜ r ≡ n + length (restFrames (aliases / 4096) (aliases % 4096) (now (rest .entry))) ⌝ }
+    ensures bytes { λ _. ⌜ now (frames .exit) ≡ putAt (16 * n) (framesBytes (restFrames (aliases / 4096) (aliases % 4096) (now (rest .entry)))) (now (frames .entry)) ⌝ }
 {
     if rest.len() <= 8 {
-        return put_fragment(out, n, LAST, destination, source, rest);
+        return put_fragment(frames, n, LAST, aliases, rest);
     }
-    let next = put_fragment(out, n, MIDDLE, destination, source, &rest[..8]);
-    cut_rest(&rest[8..], destination, source, out, next)
+    let next = put_fragment(frames, n, MIDDLE, aliases, &rest[..8]);
+    cut_rest(&rest[8..], aliases, frames, next)
 }
 
-// Up to 8 bytes go in a Single; otherwise the first 8 go in a First, and the rest is cut by the rule above. The frames are put into `out`
-// from frame n on; the number of all is returned.
-pub fn cut_whole(datagram: &[u8], destination: u16, source: u16, out: &mut [u8], n: usize) -> usize
-    requires { ⌜ (destination ≤ 4095) × (source ≤ 4095) × (16 * (n + length (framesOf destination source (now datagram))) ≤ length (now out)) ⌝ }
-    ensures count { λ r. ⌜ r ≡ n + length (framesOf destination source (now (datagram .entry))) ⌝ }
-    ensures bytes { λ _. ⌜ now (out .exit) ≡ putAt (16 * n) (framesBytes (framesOf destination source (now (datagram .entry)))) (now (out .entry)) ⌝ }
+// Up to 8 bytes go in a Single; otherwise the first 8 go in a First, and the rest is cut by the rule above. The frames are put into the
+// lent bytes from frame n on; the number of all is returned.
+pub fn cut_whole(datagram: &[u8], aliases: u32, frames: &mut [u8; 160], n: usize) -> usize
+    requires { ⌜ (aliases < 16777216) × (n + length (framesOf (aliases / 4096) (aliases % 4096) (now datagram)) ≤ 10) ⌝ }
+    ensures count { λ r. ⌜ r ≡ n + length (framesOf (aliases / 4096) (aliases % 4096) (now (datagram .entry))) ⌝ }
+    ensures bytes { λ _. ⌜ now (frames .exit) ≡ putAt (16 * n) (framesBytes (framesOf (aliases / 4096) (aliases % 4096) (now (datagram .entry)))) (now (frames .entry)) ⌝ }
 {
     if datagram.len() <= 8 {
-        return put_fragment(out, n, SINGLE, destination, source, datagram);
+        return put_fragment(frames, n, SINGLE, aliases, datagram);
     }
-    let next = put_fragment(out, n, FIRST, destination, source, &datagram[..8]);
-    cut_rest(&datagram[8..], destination, source, out, next)
+    let next = put_fragment(frames, n, FIRST, aliases, &datagram[..8]);
+    cut_rest(&datagram[8..], aliases, frames, next)
 }

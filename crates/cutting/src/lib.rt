@@ -24,7 +24,8 @@ fn cut_from(
     if !fragments::is_cut(datagram.len(), destination, source) {
         return n;
     }
-    cut::cut_whole(datagram, destination, source, frames, n)
+    let aliases = destination as u32 * 0x1000 + source as u32;
+    cut::cut_whole(datagram, aliases, frames, n)
 }
 
 // Cuts a datagram into frames from the source to the destination, and gives their number, 1 to 9. Refused, by B9, with 0 and no frame made,

@@ -11,6 +11,7 @@ use borrow.Author.Tests.{not-true, not-false}
 use Rattle.buffer.proofs.Laws.{put-nil}
 use Rattle.fragments.specs.Cutting.{aliases}
 use Rattle.fragments.proofs.CutLaws.{cut-none, cut-all, cut-fits}
+use Rattle.cutting.proofs.FrameLaws.{few-in-one, made-in-one}
 use Rattle.cutting.proofs.cut_from.Statement.{statement}
 use Rattle.cutting.proofs.cut_from.Tie as tie
 
@@ -25,15 +26,16 @@ cut-whole-requires c κs =
     let a = c .before .before .before .before .args in
     let yes : (leb (length (a .datagram .now)) 72 && aliases (a .destination) (a .source)) ≡ true = sym (c .before .before .is-cut .ensures) ∙ not-false _ (c .before .if1 .left) in
     let fits = cut-fits (a .destination) (a .source) (a .datagram .now) yes in
-    search needs
+    (omega arith, few-in-one (a .destination) (a .source) (a .datagram .now) (a .n) _ (omega arith) (omega arith) (omega arith))
 
 returns-2 : tie.Need-returns-2
 returns-2 c =
-    let e = c .before .before in
-    let a = e .before .before .before .args in
-    let yes : (leb (length (a .datagram .now)) 72 && aliases (a .destination) (a .source)) ≡ true = sym (e .before .is-cut .ensures) ∙ not-false _ (e .if1 .left) in
-    rw (cut-all (a .destination) (a .source) (a .datagram .now) yes) (c .cut-whole .ensures)
+    let a = c .before .before .before .before .before .args in
+    let yes : (leb (length (a .datagram .now)) 72 && aliases (a .destination) (a .source)) ≡ true = sym (c .before .before .before .is-cut .ensures) ∙ not-false _ (c .before .before .if1 .left) in
+    let fits = cut-fits (a .destination) (a .source) (a .datagram .now) yes in
+    rw (cut-all (a .destination) (a .source) (a .datagram .now) yes)
+    (made-in-one (a .destination) (a .source) (a .datagram .now) (a .n) _ (a .frames .now) (c .cut-whole .ensures) (omega arith) (omega arith))
 
 pub cut-from-spec : {M : Type 1} → statement M
 cut-from-spec =
-    tie.close (tie.spec (λ c κs. search needs) returns cut-whole-requires returns-2)
+    tie.close (tie.spec (λ c κs. search needs) returns (λ c. search needs) (λ c. search needs) cut-whole-requires returns-2)

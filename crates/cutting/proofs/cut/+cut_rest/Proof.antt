@@ -1,6 +1,6 @@
 -- The proof of the cycle of calls {cut_rest}. The measure is the length of the rest.
 -- Assumes nothing.
-use Prim.Native.Nat.{ℕ, _+_, _-_, _<_}
+use Prim.Native.Nat.{ℕ, _+_, _-_, _/_, _%_, _<_}
 use mathlib.Core.Path.{_≡_, ap, _∙_}
 use native.Mathlib.Omega.{arith}
 use native.Mathlib.Nat.{le-of-eq}
@@ -36,42 +36,43 @@ claims t = (put-fragment-reads.Asked, put-fragment-reads.Learnt, cut-rest-below 
 
 cut-rest-returns : (t : ℕ) → cut-rest-lts.Need-returns (claims t) (cut-rest-at t) cut-rest.Post
 cut-rest-returns t c =
-    let a = c .before .before .before .before .before .before .before .args in
+    let a = c .before .before .before .before .args in
     let xs = a .rest .now in
-    frame-ends (a .n) (restFrames (a .destination) (a .source) xs) (a .out .now) (omega arith) (headerOf 0x1D (a .destination) (a .source)) xs
-    (rest-last (a .destination) (a .source) xs (omega arith)) (omega arith) (c .before .before .put-fragment .ensures)
+    let put = c .put-fragment .ensures in
+    frame-ends (a .n) (restFrames (a .aliases / 4096) (a .aliases % 4096) xs) (a .frames .now) (omega arith) (headerOf 0x1D (a .aliases / 4096) (a .aliases % 4096)) xs
+    (rest-last (a .aliases / 4096) (a .aliases % 4096) xs (omega arith)) (omega arith) (put .0, put .1 .0)
 
 cut-rest-slice-aggregate-put-fragment : (t : ℕ) → cut-rest-lts.Need-slice-aggregate-put-fragment (claims t) (cut-rest-at t) cut-rest.Post
 cut-rest-slice-aggregate-put-fragment t c =
-    let xs = c .before .before .before .before .before .args .rest .now in
+    let xs = c .before .before .before .before .args .rest .now in
     let m : length (take 8 xs) ≡ 8 = length-take-le 8 xs (omega arith) in
     search needs
 
 cut-rest-cut-rest-requires : (t : ℕ) → cut-rest-lts.Need-cut-rest-requires (claims t) (cut-rest-at t) cut-rest.Post
 cut-rest-cut-rest-requires t c κs =
-    let a = c .before .before .before .before .before .before .before .before .before .before .args in
+    let a = c .before .before .before .before .before .before .before .args in
     let xs = a .rest .now in
-    let next = c .before .before .before .before .put-fragment2 .ensures .0 in
+    let next = c .before .before .put-fragment2 .ensures .0 in
     let l : length (take (length xs - 8) (drop 8 xs)) ≡ length xs - 8 = ap length (behind-eight xs) ∙ length-drop 8 xs in
-    let m : length (restFrames (a .destination) (a .source) xs) ≡ 1 + length (restFrames (a .destination) (a .source) (take (length xs - 8) (drop 8 xs)))
-    = rw (rest-several (a .destination) (a .source) xs (omega arith)) (omega arith) in
+    let m : length (restFrames (a .aliases / 4096) (a .aliases % 4096) xs) ≡ 1 + length (restFrames (a .aliases / 4096) (a .aliases % 4096) (take (length xs - 8) (drop 8 xs)))
+    = rw (rest-several (a .aliases / 4096) (a .aliases % 4096) xs (omega arith)) (omega arith) in
     search needs
 
 cut-rest-returns-2 : (t : ℕ) → cut-rest-lts.Need-returns-2 (claims t) (cut-rest-at t) cut-rest.Post
 cut-rest-returns-2 t c =
-    let a = c .before .before .before .before .before .before .before .before .before .before .before .before .before .args in
+    let a = c .before .before .before .before .before .before .before .before .args in
     let xs = a .rest .now in
-    frame-goes-on (a .n) (restFrames (a .destination) (a .source) xs) (a .out .now) (omega arith) (headerOf 0x1C (a .destination) (a .source)) (take 8 xs)
-    (restFrames (a .destination) (a .source) (take (length xs - 8) (drop 8 xs)))
-    (rest-several (a .destination) (a .source) xs (omega arith)) (le-of-eq (length-take-le 8 xs (omega arith)))
-    (c .before .before .before .before .before .before .before .put-fragment2 .ensures) (c .before .before .cut-rest .ensures)
+    let put = c .before .before .before .put-fragment2 .ensures in
+    frame-goes-on (a .n) (restFrames (a .aliases / 4096) (a .aliases % 4096) xs) (a .frames .now) (omega arith) (headerOf 0x1C (a .aliases / 4096) (a .aliases % 4096)) (take 8 xs)
+    (restFrames (a .aliases / 4096) (a .aliases % 4096) (take (length xs - 8) (drop 8 xs)))
+    (rest-several (a .aliases / 4096) (a .aliases % 4096) xs (omega arith)) (le-of-eq (length-take-le 8 xs (omega arith)))
+    (put .0, put .1 .0) (c .cut-rest .ensures)
 
 pub +cut-rest-spec : {M : Type 1} → statement M
 +cut-rest-spec = close μ-cut-rest λ t. cut-rest-lts.spec (claims t)
     (cut-rest-at t)
     cut-rest.Post
     (λ c κs. search needs)
-    (λ c. search needs)
     (cut-rest-returns t)
     (cut-rest-slice-aggregate-put-fragment t)
     (λ c κs. search needs)
@@ -79,5 +80,4 @@ pub +cut-rest-spec : {M : Type 1} → statement M
     (λ c. search needs)
     (λ c. search needs)
     (cut-rest-cut-rest-requires t)
-    (λ c. search needs)
     (cut-rest-returns-2 t)
