@@ -14,12 +14,14 @@ use Rattle.fragments.specs.Cutting.{framesOf}
 use Rattle.layout.specs.Layout.{frameBytes, framesBytes, framePlaced}
 use Rattle.layout.proofs.LayoutLaws.{frame-length, frame-fits}
 
--- where both aliases are found again in one number, its frames are theirs
+-- of a number in which both aliases are found again
 module _ (destination source : ℕ) (xs : List ℕ) (n both : ℕ) where
+  -- its frames fit where theirs do
   pub few-in-one : both / 4096 ≡ destination → both % 4096 ≡ source → n + length (framesOf destination source xs) ≤ 10
       → n + length (framesOf (both / 4096) (both % 4096) xs) ≤ 10
   few-in-one d s h = rw (d, s) h
 
+  -- what was made of it was made of them
   pub made-in-one : (before : List ℕ) {after : List ℕ} {r : ℕ}
       → (r ≡ n + length (framesOf (both / 4096) (both % 4096) xs)) × (after ≡ putAt (16 * n) (framesBytes (framesOf (both / 4096) (both % 4096) xs)) before)
       → both / 4096 ≡ destination → both % 4096 ≡ source

@@ -18,7 +18,7 @@ const LAST: u32 = 0x1D;
 
 // Puts the frame of that kind as frame n; the number of the next is returned. Here and below `aliases` is what the headers of a datagram's
 // frames share: the destination's 12 bits and then the source's. One number instead of two, and lent bytes of a known length, leave less for
-// each call to hand on.
+// each call to hand on. The clause `size` is for the callers' proofs: how long a lent array is, is known only where it is handed on as a slice.
 fn put_fragment(frames: &mut [u8; 160], n: usize, kind: u32, aliases: u32, part: &[u8]) -> usize
     requires { ⌜ (kind < 32) × (aliases < 16777216) × (n ≤ 10) ⌝ }
     ensures next { λ r. ⌜ r ≡ n + 1 ⌝ }
