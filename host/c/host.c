@@ -99,11 +99,36 @@ struct board {
     uint8_t memory[DEMONSTRATION_MEMORY_SIZE];
 };
 
+/* Whether the library refuses what it is handed; the sentence says what is wrong with the board. */
+static bool is_refused(struct bujorelm_result result)
+{
+    char sentence[BUJORELM_SENTENCE_SIZE];
+
+    if (result.kind != BUJORELM_REFUSED) {
+        return false;
+    }
+    fprintf(stderr, "host: %s\n", bujorelm_sentence_of(result, sentence));
+    return true;
+}
+
+/* A fresh board. One that the library refuses would answer nobody, so the program ends. */
 static void board_start(struct board *board)
 {
     memset(board->memory, 0, sizeof board->memory);
     bujorelm_node_start(&board->node, &demonstration_description, demonstration_flash, sizeof demonstration_flash, board->memory,
                         sizeof board->memory);
+    if (is_refused(bujorelm_node_check(&board->node))) {
+        exit(EXIT_FAILURE);
+    }
+}
+
+/* A frame for the board, from its arrival until the frames that answer it are handed to `send`. */
+static void board_receive(struct board *board, const struct bujorelm_frame *frame, bujorelm_send_function send, void *context)
+{
+    struct bujorelm_result result;
+
+    (void)bujorelm_node_receive(&board->node, frame->header, frame->bytes, frame->len, send, context, &result);
+    (void)is_refused(result);
 }
 
 /* ---- Descriptors ---- */
@@ -180,7 +205,7 @@ static void pipe_line(void *context, const struct bujorelm_parsed *line)
     struct pipe_host *const host = context;
 
     if (line->good) {
-        (void)bujorelm_node_receive(&host->board.node, line->frame.header, line->frame.bytes, line->frame.len, pipe_send, host, NULL);
+        board_receive(&host->board, &line->frame, pipe_send, host);
     } else {
         pipe_room(host);
         memcpy(host->out + host->len, "?\n", 2);
@@ -375,7 +400,7 @@ static void hub_line(void *context, const struct bujorelm_parsed *line)
         if (line->frame.header <= HEADER_MAX) {
             hub_relay(hub, &line->frame, arrival->from);
         }
-        (void)bujorelm_node_receive(&hub->board.node, line->frame.header, line->frame.bytes, line->frame.len, hub_send, hub, NULL);
+        board_receive(&hub->board, &line->frame, hub_send, hub);
     } else {
         tool_append(&hub->tools[arrival->from], (const uint8_t *)"?\n", 2);
     }

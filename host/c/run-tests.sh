@@ -74,6 +74,13 @@ for level in -O0 -O1 -O2 -O3 -Os; do
     "$out/stack" "$level"
 done
 
+# refusing NAME SOURCE: the same program with a library that refuses as the environment says.
+refusing() {
+    # shellcheck disable=SC2086
+    $CC $c $sanitizers -I "$here/include" -I "$here" -Wl,--wrap=bujorelm_handle_frame "$here/$2" "$here/tests/refusing.c" "$library" \
+        -o "$out/$1-refusing"
+}
+
 echo "host/c: the examples and docs/DRIVER.md"
 compile example "-O2" example/minimal.c
 compile example-sanitized "$sanitizers" example/minimal.c
@@ -82,6 +89,10 @@ compile socketcan-test "$sanitizers" tests/socketcan.c
 "$out/socketcan-test"
 compile host "-O2 -g" host.c
 compile host-sanitized "$sanitizers" host.c
+refusing example example/minimal.c
+refusing socketcan example/socketcan.c
+refusing host host.c
+python3 "$here/tests/refusal_test.py" "$out"
 python3 "$here/tests/document_test.py" "$root/docs/DRIVER.md" "$root" "$out"
 python3 "$here/tests/assumptions_test.py" "$root"
 python3 "$here/tests/demands_test.py" "$root"

@@ -61,7 +61,7 @@ pub record Agrees (result : Result) (r : Answer) (before after : List ℕ) : Typ
   pub answer : r ≡ answerOf (fitted result before)
   pub buffer : after ≡ bufferOf (fitted result before) before
 
--- How large the numbers of an answer are, where no house number refuses the call: what is written lies in memory, which by B1 has at most
+-- How large the numbers of an answer are, where no house number refuses the call: what is written lies in memory, which by B12 has at most
 -- 65,536 bytes, and is at most 64 bytes; and "No reply is over 72 bytes."
 abbrev pub SmallAnswer : Answer → Type 0
 SmallAnswer (Rejected code) = Unit {0}

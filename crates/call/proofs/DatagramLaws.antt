@@ -2,17 +2,17 @@
 -- Assumes nothing.
 use Prim.Native.Nat.{ℕ, _≤_}
 use mathlib.Core.Path.{_≡_, refl, sym, ap, _∙_}
-use mathlib.Core.Bool.{true, false, _||_}
+use mathlib.Core.Bool.{true, false}
 use mathlib.Core.List.{List}
 use native.Mathlib.Omega.{arith}
-use lib.Dec.{ltb, eqb}
+use lib.Dec.{ltb}
 use lib.ListN.{length}
 use borrow.Author.Tests.{ltb-false}
-use Rattle.buffer.proofs.Choice.{cond-not, or-left, or-right}
+use Rattle.buffer.proofs.Choice.{cond-not}
 use Rattle.house.specs.HouseNumbers.{isGood, descriptionHouse}
 use Rattle.house.specs.declared.HouseNumber.{HouseNumber}
 use Rattle.house.specs.declared.HouseNumber.the-variants.{Good}
-use Rattle.house.proofs.Laws.{is-good, bad, orElse-good, good-limits}
+use Rattle.house.proofs.Laws.{is-good, bad, orElse-good, good-memory}
 use Rattle.description.specs.Calls.{bufferHouse, callHouse}
 use Rattle.answer.specs.Answers.{Result, datagramRejected, written, updateCompleted, receivedOkReply, answerOf, bufferOf, fitted, SmallAnswer}
 use Rattle.answer.specs.declared.Answer.{Answer}
@@ -36,12 +36,7 @@ module _ (x : Fixed) (memory buffer : List ℕ) (g : datagramHouse x memory buff
   house-description = orElse-good (descriptionHouse (x .alias) (x .spaces) (length (x .flash)) (length memory)) (bufferHouse (length buffer)) g .0
 
   house-memory : length memory ≤ 65536
-  house-memory =
-      let m = length memory in
-      let f = length (x .flash) in
-      ltb-false 65536 m
-      (or-left (ltb 65536 m) (ltb 65536 f || (eqb (x .alias) 0 || ltb 4095 (x .alias)))
-      (or-right (ltb 16 (length (x .spaces))) _ (good-limits (x .alias) (x .spaces) f m house-description)))
+  house-memory = good-memory (x .alias) (x .spaces) (length (x .flash)) (length memory) house-description
 
 -- a house number by the sizes of what is lent
 pub by-sizes : (x : Fixed) (memory buffer : List ℕ) {house : HouseNumber} → house ≡ callHouse (x .alias) (x .spaces) (length (x .flash)) (length memory) (length buffer) → house ≡ datagramHouse x memory buffer

@@ -13,7 +13,7 @@ use Rattle.handling.specs.Handling.{Fixed, Contents, Outcome, handle}
 use Rattle.call.specs.declared.Handled.{Handled}
 use Rattle.call.specs.declared.Handled.the-variants.{Refused, Answered}
 
--- The first of B1 to B6 that applies.
+-- The first house number that applies, of B11 to B14 and B2 to B6.
 unfoldable pub datagramHouse : Fixed → List ℕ → List ℕ → HouseNumber
 datagramHouse x memory buffer = callHouse (x .alias) (x .spaces) (length (x .flash)) (length memory) (length buffer)
 

@@ -1,4 +1,4 @@
--- The frame call: the house numbers B1 to B7 at every call, joining, and a finished datagram handled whole; and demand 3 of it.
+-- The frame call: the house numbers at every call, joining, and a finished datagram handled whole; and demand 3 of it.
 use Prim.Native.Nat.{ℕ, _≤_}
 use mathlib.Core.Bool.{cond}
 use mathlib.Core.List.{List}
@@ -25,7 +25,7 @@ use Rattle.call.specs.declared.FrameAnswer.the-variants as answer
 abbrev pub handler : Fixed → Contents → List ℕ → Result × Contents
 handler x c d = let o = handle x c d in (o .result, o .contents)
 
--- "House numbers .. checked first at each call; nothing changes": B1 to B6 of the description and the buffer, then B7 of the state;
+-- "House numbers .. checked first at each call; nothing changes": those of the description and the buffer, then B7 of the state;
 -- then the frame is joined, and a finished datagram handled.
 unfoldable pub frameCall : Fixed → List ℕ → State → Contents → CanFrame → FrameResult HouseNumber Contents Result
 frameCall x buffer st c f =

@@ -1,4 +1,4 @@
-// The call for a whole datagram: the house numbers B1 to B6, and then the datagram handled.
+// The call for a whole datagram: the house numbers but B7, and then the datagram handled.
 use call::Handled;
 ghost use Rattle.table.specs.Table.{spacesIn};
 ghost use Rattle.handling.specs.Handling.{fixed, contents};

@@ -1,25 +1,30 @@
--- Laws of the spaces of a table, looked through in their order.
+-- Laws of the spaces of a table, looked through in their order, and of the house number of a call.
 -- Assumes nothing.
 use Prim.Native.Nat.{ℕ, zero, suc, _+_, _-_, _*_, _/_, _%_, _^_, _≤_, _<_, min, max}
-use mathlib.Core.Path.{_≡_, refl, sym, ap, _∙_}
+use mathlib.Core.Path.{_≡_, refl, sym, ap, subst, _∙_}
 use mathlib.Core.Bool.{Bool, true, false, cond, not, _||_}
 use mathlib.Core.List.{List, [], _∷_, _++_}
 use native.Mathlib.Numerals.{add-one}
 use native.Mathlib.Omega.{arith}
 use lib.Arith.{bin-ind}
 use lib.Bits.{bitAnd, bitOr, and-step, or-step, and-zero-l, and-self, or-comm}
-use lib.Dec.{eqb, lit<}
+use lib.Dec.{eqb, ltb, lit<}
 use lib.Pow.{pow-pos, shl-exact}
 use lib.ListN.{length, drop, getD, drop-of-length-le}
 use lib.Seq.{drop-cons}
 use borrow.Author.Tests.{eq-eqb, ne-eqb}
+use Rattle.buffer.proofs.Choice.{cond-elim}
 use Rattle.table.specs.Table.{noSpace, rowAt, spaceAt, spacesFrom, spacesIn}
 use Rattle.table.proofs.TableLaws.{spaces-length, space-in, table-next, table-done}
 use Rattle.table.specs.declared.Space.{Space}
-use Rattle.house.specs.HouseNumbers.{isGood, orElse, among, numbersOf, windowHouse, spacesHouse}
+use Rattle.house.specs.HouseNumbers.{houseNumberOf, isGood, orElse, among, numbersOf, windowHouse, spacesHouse}
 use Rattle.house.specs.declared.HouseNumber.{HouseNumber}
 use Rattle.house.specs.declared.HouseNumber.the-variants.{Good, B5}
+use Rattle.house.specs.Positions.{Positioned}
+use Rattle.house.specs.declared.Position.the-variants.{Nowhere}
 use Rattle.house.proofs.Laws.{tested-bad, tested-good}
+use Rattle.house.proofs.Positions.{positioned}
+use Rattle.description.specs.Calls.{bufferHouse, callHouse}
 
 -- ---- the numbers that are used
 
@@ -50,6 +55,12 @@ unfolding rowAt
 numbers-more t i h e =
     let z : 0 + i ≡ i = omega arith in
     rw (add-one i, numbers-suc t 0 i, z, e, space-in t i (rw (← spaces-length t 0 (length t / 16)) h))
+
+-- as many numbers as spaces
+pub numbers-length : (t : List ℕ) (i n : ℕ) → length (numbersOf (spacesFrom t i n)) ≡ n
+unfolding numbersOf spacesFrom
+numbers-length t i zero = refl
+numbers-length t i (suc n) = ap suc (numbers-length t (i + 1) n)
 
 -- a mark for each number, the bit at its remainder: where it is not set, no earlier space has the number
 abbrev pub markOf : ℕ → ℕ
@@ -98,18 +109,18 @@ marks-more marks earlier n m k z = rw (among-more k n earlier, ne-eqb n k other,
 
 -- ---- the check
 
--- a turn of the check, by the answer for the window and whether the number is used; and its end
+-- a turn of the check, by the answer for the window and whether the number is used; and its end. The position is the number of earlier spaces
 module _ (l : List Space) (i f m : ℕ) (earlier : List ℕ) {s : Space} {house : HouseNumber} {g : Bool}
-    (h : i < length l) (e : s ≡ getD l i noSpace) (w : house ≡ windowHouse f m s) (v : g ≡ isGood house) where
-  turn : spacesHouse f m earlier (drop i l) ≡ orElse (orElse house (cond (among (s .number) earlier) B5 Good)) (spacesHouse f m (earlier ++ (s .number ∷ [])) (drop (i + 1) l))
+    (at : length earlier ≡ i) (h : i < length l) (e : s ≡ getD l i noSpace) (w : house ≡ windowHouse f m i s) (v : g ≡ isGood house) where
+  turn : spacesHouse f m earlier (drop i l) ≡ orElse (orElse house (cond (among (s .number) earlier) (B5 i) Good)) (spacesHouse f m (earlier ++ (s .number ∷ [])) (drop (i + 1) l))
   unfolding spacesHouse
-  turn = rw (add-one i, drop-cons l i noSpace h, w, e)
+  turn = rw (add-one i, drop-cons l i noSpace h, at, w, e)
 
   pub turn-refused : not g ≡ true → spacesHouse f m earlier (drop i l) ≡ house
   turn-refused q = turn ∙ rw (tested-bad house v q, tested-bad house v q)
 
   module _ (q : not g ≡ false) where
-    pub turn-used : among (s .number) earlier ≡ true → spacesHouse f m earlier (drop i l) ≡ B5
+    pub turn-used : among (s .number) earlier ≡ true → spacesHouse f m earlier (drop i l) ≡ B5 i
     turn-used z = turn ∙ rw (tested-good house v q, z)
 
     pub turn-good : among (s .number) earlier ≡ false → spacesHouse f m earlier (drop i l) ≡ spacesHouse f m (earlier ++ (s .number ∷ [])) (drop (i + 1) l)
@@ -118,3 +129,13 @@ module _ (l : List Space) (i f m : ℕ) (earlier : List ℕ) {s : Space} {house 
 pub turn-none : (l : List Space) (i f m : ℕ) (earlier : List ℕ) → length l ≤ i → spacesHouse f m earlier (drop i l) ≡ Good
 unfolding spacesHouse
 turn-none l i f m earlier h = rw (drop-of-length-le l {i = i} h)
+
+-- ---- a call
+
+buffer-nowhere : (reply : ℕ) → houseNumberOf (bufferHouse reply) .position ≡ Nowhere
+buffer-nowhere reply = cond-elim (λ h. houseNumberOf h .position ≡ Nowhere) (ltb reply 72) (λ q. refl) (λ q. refl)
+
+-- the house number of a call, and what its position says
+pub call-positioned : (alias : ℕ) (l : List Space) (f m reply : ℕ) {house : HouseNumber} → house ≡ callHouse alias l f m reply
+    → (house ≡ callHouse alias l f m reply) × Positioned alias f m l house
+call-positioned alias l f m reply e = (e, subst (Positioned alias f m l) (sym e) (positioned alias f m l (bufferHouse reply) (buffer-nowhere reply)))

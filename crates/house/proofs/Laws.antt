@@ -2,29 +2,32 @@
 -- Assumes nothing.
 use Prim.Native.Nat.{ℕ, _+_, _≤_}
 use mathlib.Core.Path.{_≡_, refl, sym, ap, _∙_}
-use mathlib.Core.Bool.{Bool, true, false, not, _&&_, _||_}
+use mathlib.Core.Bool.{Bool, true, false, cond, not, _&&_, _||_}
 use mathlib.Core.List.{List, [], _∷_, _++_}
 use lib.Dec.{eqb, ltb}
 use lib.ListN.{length}
 use borrow.Author.Tests.{ltb-false, not-true, not-false}
-use Rattle.buffer.proofs.Choice.{cond-true, cond-false, cond-elim, cond-not, clash, or-left}
+use Rattle.buffer.proofs.Choice.{cond-true, cond-false, cond-elim, cond-map, cond-not, clash, or-left}
 use Rattle.board.specs.Description.{sizeOf, storeOf, findSpace}
 use Rattle.board.specs.declared.Found.{Found}
 use Rattle.board.specs.declared.Found.the-variants.{Described, Empty, Unknown}
 use Rattle.table.specs.declared.Space.{Space}
 use Rattle.house.specs.HouseNumbers.{isGood, orElse, windowHouse, spaceHouse, spacesHouse, limitsHouse, descriptionHouse}
 use Rattle.house.specs.declared.HouseNumber.{HouseNumber}
-use Rattle.house.specs.declared.HouseNumber.the-variants.{Good, B1, B2, B3, B4, B5, B6, B7}
+use Rattle.house.specs.declared.HouseNumber.the-variants.{Good, B11, B12, B13, B14, B2, B3, B4, B5, B6, B7}
 
 -- ---- house numbers
 
 pub is-good : (h : HouseNumber) → isGood h ≡ true → h ≡ Good
 is-good Good e = refl
-is-good B1 e = clash (sym e)
-is-good B2 e = clash (sym e)
-is-good B3 e = clash (sym e)
-is-good B4 e = clash (sym e)
-is-good B5 e = clash (sym e)
+is-good B11 e = clash (sym e)
+is-good B12 e = clash (sym e)
+is-good B13 e = clash (sym e)
+is-good B14 e = clash (sym e)
+is-good (B2 position) e = clash (sym e)
+is-good (B3 position) e = clash (sym e)
+is-good (B4 position) e = clash (sym e)
+is-good (B5 position) e = clash (sym e)
 is-good B6 e = clash (sym e)
 is-good B7 e = clash (sym e)
 
@@ -55,13 +58,22 @@ orElse-good a b e = go (isGood a) refl
     go true q = (is-good a q, sym (cond-true (isGood a) b a q) ∙ e)
     go false q = absurd (bad q (sym (cond-false (isGood a) b a q) ∙ e))
 
+-- what no limit refuses has at most 16 spaces
+pub limits-count : (alias n f m : ℕ) → limitsHouse alias n f m ≡ Good → n ≤ 16
+limits-count alias n f m g = ltb-false _ _ (cond-not (ltb 16 n) g (bad refl) .0)
+
 module _ (alias : ℕ) (l : List Space) (f m : ℕ) (g : descriptionHouse alias l f m ≡ Good) where
   parts : (limitsHouse alias (length l) f m ≡ Good) × (spacesHouse f m [] l ≡ Good)
   unfolding descriptionHouse
   parts = orElse-good (limitsHouse alias (length l) f m) (spacesHouse f m [] l) g
 
-  pub good-limits : (ltb 16 (length l) || (ltb 65536 m || (ltb 65536 f || (eqb alias 0 || ltb 4095 alias)))) ≡ false
-  good-limits = cond-not _ (parts .0) (bad refl) .0
+  pub good-count : length l ≤ 16
+  good-count = limits-count alias (length l) f m (parts .0)
+
+  pub good-memory : m ≤ 65536
+  good-memory =
+      let few = cond-not (ltb 16 (length l)) {a = B11} (parts .0) (bad refl) .1 in
+      ltb-false _ _ (cond-not (ltb 65536 m) {a = B12} few (bad refl) .0)
 
   pub good-spaces : spacesHouse f m [] l ≡ Good
   good-spaces = parts .1
@@ -74,8 +86,8 @@ pub record Fine (f m : ℕ) (s : Space) : Type 0 where
   -- what may be written lies in memory
   pub writable : s .«read_only» ≡ false → s .«in_flash» ≡ false
 
-pub window-fine : (f m : ℕ) (s : Space) → windowHouse f m s ≡ Good → Fine f m s
-window-fine f m s g =
+pub window-fine : (f m position : ℕ) (s : Space) → windowHouse f m position s ≡ Good → Fine f m s
+window-fine f m position s g =
     let p = cond-not (ltb (s .highest) (s .lowest)) g (bad refl) in
     let q = cond-not (ltb (storeOf s f m) (s .offset + sizeOf s)) (p .1) (bad refl) in
     let w = cond-not (not (s .«read_only») && (s .«in_flash» || eqb (s .number) 0xFF)) (q .1) (bad refl) .0 in
@@ -84,6 +96,25 @@ window-fine f m s g =
       within = ltb-false _ _ (q .0);
       writable = λ r. or-left (s .«in_flash») (eqb (s .number) 0xFF) (sym (ap (λ (t : Bool). not t && (s .«in_flash» || eqb (s .number) 0xFF)) r) ∙ w);
     }
+
+-- whether it is refused does not hang on its position
+module _ (f m : ℕ) (s : Space) where
+  abbrev crossed : Bool
+  crossed = ltb (s .highest) (s .lowest)
+
+  abbrev outside : Bool
+  outside = ltb (storeOf s f m) (s .offset + sizeOf s)
+
+  abbrev open-to-writes : Bool
+  open-to-writes = not (s .«read_only») && (s .«in_flash» || eqb (s .number) 0xFF)
+
+  window-passes : (p : ℕ) → isGood (windowHouse f m p s) ≡ cond crossed false (cond outside false (cond open-to-writes false true))
+  window-passes p =
+      cond-map isGood crossed (B2 p) _
+      ∙ ap (λ (g : Bool). cond crossed false g) (cond-map isGood outside (B3 p) _ ∙ ap (λ (g : Bool). cond outside false g) (cond-map isGood open-to-writes (B4 p) Good))
+
+  pub window-anywhere : (p q : ℕ) → isGood (windowHouse f m p s) ≡ isGood (windowHouse f m q s)
+  window-anywhere p q = window-passes p ∙ sym (window-passes q)
 
 -- what is found in a good description
 abbrev pub FoundFine : ℕ → ℕ → Found → Type 0
@@ -97,7 +128,7 @@ find-fine f m n earlier [] g = cond-elim (FoundFine f m) (ltb n 0xFD) (λ q. tt)
 find-fine f m n earlier (s ∷ l) g =
     let k = orElse-good (spaceHouse f m earlier s) _ g in
     cond-elim (FoundFine f m) (eqb (s .number) n)
-    (λ q. window-fine f m s (orElse-good (windowHouse f m s) _ (k .0) .0))
+    (λ q. window-fine f m _ s (orElse-good (windowHouse f m _ s) _ (k .0) .0))
     (λ q. find-fine f m n (earlier ++ (s .number ∷ [])) l (k .1))
 
 pub good-find : (alias : ℕ) (l : List Space) (f m n : ℕ) → descriptionHouse alias l f m ≡ Good → FoundFine f m (findSpace l n)

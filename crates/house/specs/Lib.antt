@@ -1,1 +1,2 @@
 pub mod HouseNumbers
+pub mod Positions

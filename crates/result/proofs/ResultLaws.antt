@@ -16,15 +16,15 @@ use Rattle.call.specs.declared.Handled.the-variants as handled
 use Rattle.call.specs.FrameCall.{SmallFrame, FrameChanges}
 use Rattle.call.specs.declared.FrameAnswer.{FrameAnswer}
 use Rattle.call.specs.declared.FrameAnswer.the-variants as frame
-use Rattle.words.specs.Words.{numbers, inBytes}
+use Rattle.words.specs.Words.{allNumbers, noPosition, inBytes}
 use Rattle.words.specs.declared.CallResult.{CallResult}
 use Rattle.result.specs.Result.{answerResult, handledResult, frameResult}
 
 -- ---- room
 
-has-room : (kind house flags code index n reply frames : ℕ) → index ≤ 65536 → n ≤ 64 → reply ≤ 72 → frames ≤ 10
-    → inBytes (numbers kind house flags code index n reply frames) ≡ numbers kind house flags code index n reply frames
-has-room kind house flags code index n reply frames a b c d =
+has-room : (kind house position flags code index n reply frames : ℕ) → index ≤ 65536 → n ≤ 64 → reply ≤ 72 → frames ≤ 10
+    → inBytes (allNumbers kind house position flags code index n reply frames) ≡ allNumbers kind house position flags code index n reply frames
+has-room kind house position flags code index n reply frames a b c d =
     let i : min index 0xFFFFFFFF ≡ index = omega arith in
     let j : min n 255 ≡ n = omega arith in
     let k : min reply 255 ≡ reply = omega arith in
@@ -32,20 +32,20 @@ has-room kind house flags code index n reply frames a b c d =
     rw (i, j, k, l)
 
 answer-room : (a : Answer) (frames : ℕ) → SmallAnswer a → frames ≤ 10 → inBytes (answerResult a frames) ≡ answerResult a frames
-answer-room (answer.Rejected code) frames s h = has-room 4 0 0 code 0 0 0 frames (omega arith) (omega arith) (omega arith) h
-answer-room (answer.Written index n) frames s h = has-room 5 0 0 0 index n 0 frames (omega (arith, s .0)) (s .1) (omega arith) h
-answer-room answer.UpdateComplete frames s h = has-room 7 0 0 0 0 0 0 frames (omega arith) (omega arith) (omega arith) h
-answer-room (answer.Replied n) frames s h = has-room 6 0 0x80 0 0 0 n frames (omega arith) (omega arith) s h
+answer-room (answer.Rejected code) frames s h = has-room 4 0 noPosition 0 code 0 0 0 frames (omega arith) (omega arith) (omega arith) h
+answer-room (answer.Written index n) frames s h = has-room 5 0 noPosition 0 0 index n 0 frames (omega (arith, s .0)) (s .1) (omega arith) h
+answer-room answer.UpdateComplete frames s h = has-room 7 0 noPosition 0 0 0 0 0 frames (omega arith) (omega arith) (omega arith) h
+answer-room (answer.Replied n) frames s h = has-room 6 0 noPosition 0x80 0 0 0 n frames (omega arith) (omega arith) s h
 
 handled-room : (r : Handled) → SmallHandled r → inBytes (handledResult r) ≡ handledResult r
 handled-room (handled.Refused house) s = refl
 handled-room (handled.Answered a) s = answer-room a 0 s (omega arith)
 
 frame-room : (r : FrameAnswer) (frames : ℕ) → SmallFrame r → frames ≤ 10 → inBytes (frameResult r frames) ≡ frameResult r frames
-frame-room (frame.Refused house) frames s h = has-room 0 _ 0 0 0 0 0 frames (omega arith) (omega arith) (omega arith) h
-frame-room frame.Ignored frames s h = has-room 1 0 0 0 0 0 0 frames (omega arith) (omega arith) (omega arith) h
-frame-room frame.Nothing frames s h = has-room 2 0 0 0 0 0 0 frames (omega arith) (omega arith) (omega arith) h
-frame-room (frame.TransportRefusal code) frames s h = has-room 3 0 0 code 0 0 0 frames (omega arith) (omega arith) (omega arith) h
+frame-room (frame.Refused house) frames s h = has-room 0 _ _ 0 0 0 0 0 frames (omega arith) (omega arith) (omega arith) h
+frame-room frame.Ignored frames s h = has-room 1 0 noPosition 0 0 0 0 0 frames (omega arith) (omega arith) (omega arith) h
+frame-room frame.Nothing frames s h = has-room 2 0 noPosition 0 0 0 0 0 frames (omega arith) (omega arith) (omega arith) h
+frame-room (frame.TransportRefusal code) frames s h = has-room 3 0 noPosition 0 code 0 0 0 frames (omega arith) (omega arith) (omega arith) h
 frame-room (frame.Answered a) frames s h = answer-room a frames s h
 
 -- ---- what changed

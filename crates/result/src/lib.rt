@@ -3,26 +3,28 @@ use answer::Answer;
 use call::FrameAnswer;
 use call::Handled;
 use house::HouseNumber;
+use house::Position;
 use words::CallResult;
 use words::Words;
 ghost use mathlib.Core.Path.{_≡_};
-ghost use Rattle.house.specs.HouseNumbers.{houseNumberOf};
 ghost use Rattle.words.specs.Words.{fieldsOf, inBytes};
-ghost use Rattle.result.specs.Result.{answerResult, handledResult, frameResult};
+ghost use Rattle.result.specs.Result.{positionNumber, houseResult, answerResult, handledResult, frameResult};
 
-fn house_number(house: HouseNumber) -> u8
-    ensures { λ r. ⌜ r ≡ houseNumberOf house ⌝ }
+// The number that stands for a position.
+fn position_number(position: Position) -> u8
+    ensures { λ r. ⌜ r ≡ positionNumber position ⌝ }
 {
-    match house {
-        HouseNumber::Good => 0,
-        HouseNumber::B1 => 1,
-        HouseNumber::B2 => 2,
-        HouseNumber::B3 => 3,
-        HouseNumber::B4 => 4,
-        HouseNumber::B5 => 5,
-        HouseNumber::B6 => 6,
-        HouseNumber::B7 => 7,
+    match position {
+        Position::Nowhere => words::NO_POSITION,
+        Position::At(index) => index,
     }
+}
+
+fn of_house(house: HouseNumber, frame_count: usize) -> Words
+    ensures { λ r. ⌜ fieldsOf r ≡ inBytes (houseResult house «frame_count») ⌝ }
+{
+    let position = position_number(house::position_of(house));
+    words::of_refusal(house::number_of(house), position, frame_count)
 }
 
 fn of_answer(answer: Answer, frame_count: usize) -> Words
@@ -30,13 +32,13 @@ fn of_answer(answer: Answer, frame_count: usize) -> Words
 {
     match answer {
         Answer::Rejected(code) => {
-            return words::of_kind(4, 0, 0, code, frame_count);
+            return words::of_kind(4, 0, code, frame_count);
         }
         Answer::Written(index, n) => {
             return words::of_write(index, n, frame_count);
         }
         Answer::UpdateComplete => {
-            return words::of_kind(7, 0, 0x00, 0, frame_count);
+            return words::of_kind(7, 0x00, 0, frame_count);
         }
         Answer::Replied(n) => {
             return words::of_reply(n, frame_count);
@@ -49,7 +51,7 @@ fn words_of_handled(handled: Handled) -> Words
 {
     match handled {
         Handled::Refused(house) => {
-            return words::of_kind(0, house_number(house), 0, 0, 0);
+            return of_house(house, 0);
         }
         Handled::Answered(answer) => {
             return of_answer(answer, 0);
@@ -62,16 +64,16 @@ fn words_of_frame(answer: FrameAnswer, frame_count: usize) -> Words
 {
     match answer {
         FrameAnswer::Refused(house) => {
-            return words::of_kind(0, house_number(house), 0, 0, frame_count);
+            return of_house(house, frame_count);
         }
         FrameAnswer::Ignored => {
-            return words::of_kind(1, 0, 0, 0, frame_count);
+            return words::of_kind(1, 0, 0, frame_count);
         }
         FrameAnswer::Nothing => {
-            return words::of_kind(2, 0, 0, 0, frame_count);
+            return words::of_kind(2, 0, 0, frame_count);
         }
         FrameAnswer::TransportRefusal(code) => {
-            return words::of_kind(3, 0, 0, code, frame_count);
+            return words::of_kind(3, 0, code, frame_count);
         }
         FrameAnswer::Answered(done) => {
             return of_answer(done, frame_count);

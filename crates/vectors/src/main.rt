@@ -1,39 +1,17 @@
 // Runs whole datagrams, each on a fresh demonstration board, and prints for each: the datagram, the answer, the reply, the bytes of
 // memory that changed, and the lock memory afterwards. The datagrams are lines of hexadecimal digits on standard input. A line that starts
 // with `#` is printed again; `@` and a digit says how many of the board's spaces are described from there on, `@L` that the lock is held
-// before each datagram, and `@U` that it is free.
+// before each datagram, and `@U` that it is free. A line that starts with `!` is a board, and is answered by the house number that refuses
+// it: the alias in two bytes, the sizes of memory and flash in three each, that of the reply buffer in one, and the table of spaces.
+mod boards;
+mod output;
+
 use answer::Answer;
 use call::Handled;
 use libc::STDIN_FILENO;
-use libc::STDOUT_FILENO;
 
 // The reply buffer is filled with this before each call, so that a byte past the reply that changed is seen.
 const FILL: u8 = 0xEE;
-
-fn print(text: &[u8]) {
-    io::write_all(STDOUT_FILENO, text);
-}
-
-fn digit(value: u8) -> u8 {
-    let low = value % 16;
-    if low < 10 {
-        return 48 + low;
-    }
-    55 + low
-}
-
-fn print_byte(byte: u8) {
-    let digits = [digit(byte / 16), digit(byte % 16)];
-    print(&digits);
-}
-
-fn print_bytes(bytes: &[u8]) {
-    let mut i = 0;
-    while i < bytes.len() {
-        print_byte(bytes[i]);
-        i += 1;
-    }
-}
 
 // Each byte of memory that is not zero any more, with its index.
 fn print_changes(memory: &[u8]) {
@@ -48,10 +26,10 @@ fn print_change(index: usize, byte: u8) {
     if byte == 0 {
         return;
     }
-    print(b", memory ");
-    print_byte((index % 256) as u8);
-    print(b"=");
-    print_byte(byte);
+    output::print(b", memory ");
+    output::print_byte((index % 256) as u8);
+    output::print(b"=");
+    output::print_byte(byte);
 }
 
 // Whether the buffer is as it was from index `from` on.
@@ -68,23 +46,23 @@ fn is_untouched(reply: &[u8], from: usize) -> bool {
 
 fn print_untouched(reply: &[u8], from: usize) {
     if !is_untouched(reply, from) {
-        print(b" BUFFER CHANGED PAST THE REPLY");
+        output::print(b" BUFFER CHANGED PAST THE REPLY");
     }
 }
 
 fn print_rejected(code: u16) {
-    print(b"Rejected ");
-    print_byte((code / 256) as u8);
-    print_byte((code % 256) as u8);
+    output::print(b"Rejected ");
+    output::print_byte((code / 256) as u8);
+    output::print_byte((code % 256) as u8);
 }
 
 fn print_reply(reply: &[u8], length: usize) {
     if reply.len() < length {
-        print(b" REPLY OUT OF THE BUFFER");
+        output::print(b" REPLY OUT OF THE BUFFER");
         return;
     }
-    print(b"Received OK 80, reply ");
-    print_bytes(buffer::part(reply, 0, length));
+    output::print(b"Received OK 80, reply ");
+    output::print_bytes(buffer::part(reply, 0, length));
 }
 
 // The answer; what comes back is how many bytes of the buffer the reply takes.
@@ -95,11 +73,11 @@ fn print_answer(answer: Answer, reply: &[u8]) -> usize {
             return 0;
         }
         Answer::Written(_, _) => {
-            print(b"Received OK 00");
+            output::print(b"Received OK 00");
             return 0;
         }
         Answer::UpdateComplete => {
-            print(b"Received OK 00");
+            output::print(b"Received OK 00");
             return 0;
         }
         Answer::Replied(length) => {
@@ -111,8 +89,8 @@ fn print_answer(answer: Answer, reply: &[u8]) -> usize {
 
 fn print_handled(handled: Handled, reply: &[u8]) {
     match handled {
-        Handled::Refused(_) => {
-            print(b"refused by a house number");
+        Handled::Refused(house) => {
+            boards::print_house(house);
         }
         Handled::Answered(answer) => {
             let length = print_answer(answer, reply);
@@ -123,9 +101,9 @@ fn print_handled(handled: Handled, reply: &[u8]) {
 
 // The end of a line.
 fn print_lock(lock: &[u8; 6]) {
-    print(b", lock ");
-    print_bytes(lock);
-    print(b"\n");
+    output::print(b", lock ");
+    output::print_bytes(lock);
+    output::print(b"\n");
 }
 
 // A datagram handled by a board that describes the first `count` of the demonstration board's spaces.
@@ -156,8 +134,8 @@ fn run_on(datagram: &[u8], count: u8, held: [u8; 6]) {
     let mut lock = held;
     let mut reply = [FILL; 80];
     let handled = handle(datagram, count, &mut memory, &mut lock, &mut reply);
-    print_bytes(datagram);
-    print(b": ");
+    output::print_bytes(datagram);
+    output::print(b": ");
     print_handled(handled, &reply);
     print_changes(&memory);
     print_lock(&lock);
@@ -165,12 +143,13 @@ fn run_on(datagram: &[u8], count: u8, held: [u8; 6]) {
 
 // A line of the input that is being read, and the board that its datagram is for.
 struct Row {
-    bytes: [u8; 80],
+    bytes: [u8; 288],
     len: usize,
     high: u8,
     half: bool,
     title: bool,
     setting: bool,
+    board: bool,
     count: u8,
     held: bool,
 }
@@ -178,12 +157,13 @@ struct Row {
 // The next line, for the same board.
 fn next_row(row: Row) -> Row {
     Row {
-        bytes: [0u8; 80],
+        bytes: [0u8; 288],
         len: 0,
         high: 0,
         half: false,
         title: false,
         setting: false,
+        board: false,
         count: row.count,
         held: row.held,
     }
@@ -191,12 +171,13 @@ fn next_row(row: Row) -> Row {
 
 fn first_row() -> Row {
     Row {
-        bytes: [0u8; 80],
+        bytes: [0u8; 288],
         len: 0,
         high: 0,
         half: false,
         title: false,
         setting: false,
+        board: false,
         count: 4,
         held: false,
     }
@@ -219,7 +200,7 @@ fn with_digit(row: Row, byte: u8) -> Row {
         return next;
     }
     let len = row.len;
-    if len < 80 {
+    if len < 288 {
         next.bytes[len] = row.high % 16 * 16 + value % 16;
         next.len = len + 1;
     }
@@ -249,30 +230,34 @@ fn lock_before(held: bool) -> [u8; 6] {
     [0u8; 6]
 }
 
+// The board of a line, run.
+fn run_board(bytes: [u8; 288], len: usize) {
+    boards::run_board(buffer::part(&bytes, 0, len));
+}
+
 // The datagram of a line, run.
-fn run_bytes(bytes: [u8; 80], len: usize, count: u8, held: bool) {
+fn run_bytes(bytes: [u8; 288], len: usize, count: u8, held: bool) {
     run_on(buffer::part(&bytes, 0, len), count, lock_before(held));
 }
 
-// The end of a line: its datagram is run, unless the line is a setting.
+// The end of a line: its datagram or its board is run, unless the line is a setting.
 fn end_row(row: Row) -> Row {
     if row.setting {
         return next_row(row);
     }
     let bytes = row.bytes;
+    if row.board {
+        run_board(bytes, row.len);
+        return next_row(row);
+    }
     run_bytes(bytes, row.len, row.count, row.held);
     next_row(row)
-}
-
-fn echo(byte: u8) {
-    let bytes = [byte];
-    print(&bytes);
 }
 
 // One byte of the input.
 fn read_byte(row: Row, byte: u8) -> Row {
     if row.title {
-        echo(byte);
+        output::echo(byte);
         if byte == b'\n' {
             return next_row(row);
         }
@@ -287,17 +272,24 @@ fn read_byte(row: Row, byte: u8) -> Row {
     start_or_digit(row, byte)
 }
 
-// A byte that is neither of a title nor of a setting nor a newline.
+// A byte that is neither of a title nor of a setting nor a newline. Blanks mean nothing.
 fn start_or_digit(row: Row, byte: u8) -> Row {
     let mut next = row;
     if byte == b'#' {
-        echo(byte);
+        output::echo(byte);
         next.title = true;
         return next;
     }
     if byte == b'@' {
         next.setting = true;
         return next;
+    }
+    if byte == b'!' {
+        next.board = true;
+        return next;
+    }
+    if byte == b' ' {
+        return row;
     }
     with_digit(row, byte)
 }

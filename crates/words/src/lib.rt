@@ -1,12 +1,15 @@
 // The numbers of a call's result, and the two words that hold them.
 ghost use mathlib.Core.Path.{_≡_};
-ghost use Prim.Native.Nat.{min, _<_};
-ghost use Rattle.words.specs.Words.{numbers, fieldsOf, inBytes};
+ghost use Prim.Native.Nat.{min};
+ghost use Rattle.words.specs.Words.{refused, numbers, fieldsOf, inBytes};
 
-// What comes of a call. The kinds: 0 refused by the house number `house`, 1 ignored, 2 joined and not answered, 3 refused by the transport
+// What stands in the place of a position where there is none. No position is so great, and a position of 0 is the first space's.
+pub const NO_POSITION: u8 = 255;
+
+// What comes of a call. The kinds: 0 refused by the house number `house`, with the `position` of the refused space, 1 ignored, 2 joined and not answered, 3 refused by the transport
 // with `code`, 4 rejected with `code`, 5 a write that is done, Received OK with `flags` 0x00, and memory changed in `changed_len` bytes from
 // `changed_at` on, 6 Received OK with `flags` 0x80 and a reply of `reply_len` bytes, 7 Update Complete, Received OK with `flags` 0x00.
-// `frame_count` frames are to be sent. A number that its kind does not name is 0.
+// `frame_count` frames are to be sent. A number that its kind does not name is 0, but for the position, which is `NO_POSITION`.
 #[repr(C)]
 pub struct CallResult {
     pub kind: u32,
@@ -17,6 +20,7 @@ pub struct CallResult {
     pub changed_len: u8,
     pub reply_len: u8,
     pub frame_count: u8,
+    pub position: u8,
 }
 
 // A number in one byte, and in four: the greatest that has room for one that has none.
@@ -32,8 +36,7 @@ fn four_bytes(n: usize) -> u32
     if n < 0xFFFFFFFF { n as u32 } else { 0xFFFFFFFF }
 }
 
-// The 16 bytes of a `CallResult` as two words, least significant byte first; the last of them means nothing, and is 0. What each answer has in
-// them is known, but for a few bytes, when the code is compiled: so a result is made as two words, in the two registers in which it goes back.
+// The 16 bytes of a `CallResult` as two words, least significant byte first. What each answer has in them is known, but for a few bytes, when the code is compiled: so a result is made as two words, in the two registers in which it goes back.
 pub struct Words {
     pub first: u64,
     pub second: u64,
@@ -52,47 +55,58 @@ pub fn in_fields(w: Words) -> CallResult
         changed_len: (w.second / 0x100000000 % 256) as u8,
         reply_len: (w.second / 0x10000000000 % 256) as u8,
         frame_count: (w.second / 0x1000000000000 % 256) as u8,
+        position: (w.second / 0x100000000000000) as u8,
     }
 }
 
-// A kind with its numbers.
-pub fn of_kind(kind: u32, house: u8, flags: u8, code: u16, frame_count: usize) -> Words
-    ensures numbers { λ r. ⌜ fieldsOf r ≡ inBytes (numbers kind house flags code 0 0 0 «frame_count») ⌝ }
-    ensures spare { λ r. ⌜ r .second < 0x100000000000000 ⌝ }
+// A refusal by a house number.
+pub fn of_refusal(house: u8, position: u8, frame_count: usize) -> Words
+    ensures { λ r. ⌜ fieldsOf r ≡ inBytes (refused house position «frame_count») ⌝ }
 {
     let count = byte(frame_count);
     Words {
-        first: kind as u64
-            + code as u64 * 0x100000000
-            + house as u64 * 0x1000000000000
-            + flags as u64 * 0x100000000000000,
-        second: count as u64 * 0x1000000000000,
+        first: house as u64 * 0x1000000000000,
+        second: count as u64 * 0x1000000000000 + position as u64 * 0x100000000000000,
+    }
+}
+
+// Any other kind, with its flags and its code.
+pub fn of_kind(kind: u32, flags: u8, code: u16, frame_count: usize) -> Words
+    ensures { λ r. ⌜ fieldsOf r ≡ inBytes (numbers kind flags code 0 0 0 «frame_count») ⌝ }
+{
+    let count = byte(frame_count);
+    Words {
+        first: kind as u64 + code as u64 * 0x100000000 + flags as u64 * 0x100000000000000,
+        second: count as u64 * 0x1000000000000 + NO_POSITION as u64 * 0x100000000000000,
     }
 }
 
 // A write that is done.
 pub fn of_write(index: usize, n: usize, frame_count: usize) -> Words
-    ensures numbers { λ r. ⌜ fieldsOf r ≡ inBytes (numbers 5 0 0 0 index n 0 «frame_count») ⌝ }
-    ensures spare { λ r. ⌜ r .second < 0x100000000000000 ⌝ }
+    ensures { λ r. ⌜ fieldsOf r ≡ inBytes (numbers 5 0 0 index n 0 «frame_count») ⌝ }
 {
     let at = four_bytes(index);
     let len = byte(n);
     let count = byte(frame_count);
     Words {
         first: 5,
-        second: at as u64 + len as u64 * 0x100000000 + count as u64 * 0x1000000000000,
+        second: at as u64
+            + len as u64 * 0x100000000
+            + count as u64 * 0x1000000000000
+            + NO_POSITION as u64 * 0x100000000000000,
     }
 }
 
 // A reply.
 pub fn of_reply(n: usize, frame_count: usize) -> Words
-    ensures numbers { λ r. ⌜ fieldsOf r ≡ inBytes (numbers 6 0 0x80 0 0 0 n «frame_count») ⌝ }
-    ensures spare { λ r. ⌜ r .second < 0x100000000000000 ⌝ }
+    ensures { λ r. ⌜ fieldsOf r ≡ inBytes (numbers 6 0x80 0 0 0 n «frame_count») ⌝ }
 {
     let len = byte(n);
     let count = byte(frame_count);
     Words {
         first: 6 + 0x80 * 0x100000000000000,
-        second: len as u64 * 0x10000000000 + count as u64 * 0x1000000000000,
+        second: len as u64 * 0x10000000000
+            + count as u64 * 0x1000000000000
+            + NO_POSITION as u64 * 0x100000000000000,
     }
 }

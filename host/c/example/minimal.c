@@ -80,11 +80,26 @@ static const struct bujorelm_description description = {
 
 static struct bujorelm_node node;
 
+/* Whether the library refuses what the firmware hands in; the sentence says what to change. */
+static bool is_refused(struct bujorelm_result result)
+{
+    char sentence[BUJORELM_SENTENCE_SIZE];
+
+    if (result.kind != BUJORELM_REFUSED) {
+        return false;
+    }
+    fprintf(stderr, "%s\n", bujorelm_sentence_of(result, sentence));
+    return true;
+}
+
 /* A received frame: handled, then stored, then answered. */
 static void board_receive(const struct received *frame)
 {
     const struct bujorelm_result result = bujorelm_node_handle_frame(&node, frame->header, frame->data, frame->len);
 
+    if (is_refused(result)) {
+        return;
+    }
     if (result.kind == BUJORELM_WRITTEN && !store(result.changed_at, settings + result.changed_at, result.changed_len)) {
         /* A tool that hears nothing does not rely on what it wrote. */
         return;
@@ -103,8 +118,7 @@ int main(void)
         return 1;
     }
     bujorelm_node_start(&node, &description, cdi, sizeof cdi, settings, sizeof settings);
-    if (bujorelm_node_check(&node) != BUJORELM_HOUSE_NONE) {
-        fputs("the board description is wrong\n", stderr);
+    if (is_refused(bujorelm_node_check(&node))) {
         return 1;
     }
     while (can_receive(&frame)) {

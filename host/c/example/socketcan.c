@@ -46,6 +46,18 @@ static bool store(int file, size_t at, size_t len)
     return pwrite(file, memory + at, len, (off_t)at) == (ssize_t)len && fdatasync(file) == 0;
 }
 
+/* Whether the library refuses what it is handed; the sentence says what is wrong. */
+static bool is_refused(struct bujorelm_result result)
+{
+    char sentence[BUJORELM_SENTENCE_SIZE];
+
+    if (result.kind != BUJORELM_REFUSED) {
+        return false;
+    }
+    fprintf(stderr, "socketcan: %s\n", bujorelm_sentence_of(result, sentence));
+    return true;
+}
+
 /* Serves the bus until it ends. */
 static void serve(int bus, int file)
 {
@@ -59,6 +71,9 @@ static void serve(int bus, int file)
             continue;
         }
         result = bujorelm_node_handle_frame(&node, header, received.data, received.can_dlc);
+        if (is_refused(result)) {
+            continue;
+        }
         if (result.kind == BUJORELM_WRITTEN && !store(file, result.changed_at, result.changed_len)) {
             perror("store");
             continue;
@@ -108,6 +123,9 @@ int main(int argc, char **argv)
         return 2;
     }
     start();
+    if (is_refused(bujorelm_node_check(&node))) {
+        return EXIT_FAILURE;
+    }
     serve(open_bus(argv[1]), open_store(argv[2]));
     return EXIT_FAILURE;
 }

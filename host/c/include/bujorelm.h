@@ -50,7 +50,7 @@ extern "C" {
 
 /* The version of this header: major in the upper 16 bits, minor in the lower 16. Another major is another interface; a greater minor has
    more, and all that a smaller one has. bujorelm_version_fits compares it with the archive's. */
-#define BUJORELM_VERSION 0x00020000u
+#define BUJORELM_VERSION 0x00030000u
 
 /* ---- Sizes ---- */
 
@@ -60,6 +60,12 @@ extern "C" {
 
 /* The most spaces that a description holds. */
 #define BUJORELM_SPACES_MAX 16u
+
+/* What `position` in struct bujorelm_result is where there is no position: no space has this one, and 0 is that of the first space. */
+#define BUJORELM_NO_POSITION 255u
+
+/* The most bytes of a sentence that bujorelm_sentence_of writes, with the zero byte that ends it. */
+#define BUJORELM_SENTENCE_SIZE 96u
 
 /* Sources that may each have one unfinished datagram, and the bytes of the pool: 72 for each of them. */
 #define BUJORELM_PLACES 8u
@@ -88,7 +94,8 @@ extern "C" {
 
 /* What came of a call: `kind` in struct bujorelm_result. What is to be sent is among the frames that bujorelm_handle_frame gives. */
 enum bujorelm_kind {
-    /* Refused because of what the caller handed in; `house` says why. Nothing is sent and nothing has changed. */
+    /* Refused because of what the caller handed in; `house` says why, and `position` which space is wrong. Nothing is sent and nothing has
+       changed. */
     BUJORELM_REFUSED = 0,
     /* Not a frame for this board: another header, another destination, the board's own alias as source, a header over 29 bits, data
        over 8 bytes. Nothing is sent and nothing has changed. */
@@ -115,13 +122,20 @@ enum bujorelm_kind {
 };
 
 /*
- * The house numbers: mistakes of the caller, never sent on the bus. They are tested first at each call, in the order of the numbers
- * but for B2 to B5, which are tested for one space after the other: the first space with a mistake decides.
+ * The house numbers: mistakes of the caller, never sent on the bus. They are tested first at each call, in this order, but for B2 to B5, which
+ * are tested for one space after the other: the first space with a mistake decides. These four bring its position in the table, counted from
+ * 0; the others have none. There is no B1, B8 or B10.
  */
 enum bujorelm_house {
     BUJORELM_HOUSE_NONE = 0,
-    /* More than 16 spaces, memory or flash over 65,536 bytes, or the alias is not 1 to 4,095. */
-    BUJORELM_HOUSE_B1 = 1,
+    /* More than 16 spaces. */
+    BUJORELM_HOUSE_B11 = 11,
+    /* Memory over 65,536 bytes. */
+    BUJORELM_HOUSE_B12 = 12,
+    /* Flash over 65,536 bytes. */
+    BUJORELM_HOUSE_B13 = 13,
+    /* The alias is not 1 to 4,095. */
+    BUJORELM_HOUSE_B14 = 14,
     /* A space's lowest address is above its highest. */
     BUJORELM_HOUSE_B2 = 2,
     /* A space reaches past the end of the memory or flash that it lies in. */
@@ -227,7 +241,8 @@ struct bujorelm_reception {
     struct bujorelm_place places[BUJORELM_PLACES];
 };
 
-/* What came of a call. A number that its kind does not name is 0, but for `frame_count`, which is 0 exactly where nothing is sent. */
+/* What came of a call. A number that its kind does not name is 0, but for `frame_count`, which is 0 exactly where nothing is sent, and for
+   `position`, which is BUJORELM_NO_POSITION. */
 struct bujorelm_result {
     enum bujorelm_kind kind;
     /* Of Rejected: an enum bujorelm_code. */
@@ -243,6 +258,9 @@ struct bujorelm_result {
     uint8_t reply_len;
     /* How many frames bujorelm_handle_frame gives to be sent, 0 to 10. Always 0 from bujorelm_handle_datagram. */
     uint8_t frame_count;
+    /* Of BUJORELM_REFUSED with B2 to B5: the position of the refused space in the table, 0 to 15, 0 for the first. In every other result it
+       is BUJORELM_NO_POSITION, and never 0. bujorelm_position_of tells the two apart. */
+    uint8_t position;
 };
 
 /* A line that was read. Where it is not `good` the frame is all zero. */
@@ -320,6 +338,7 @@ BUJORELM_AT(result, changed_at, 8);
 BUJORELM_AT(result, changed_len, 12);
 BUJORELM_AT(result, reply_len, 13);
 BUJORELM_AT(result, frame_count, 14);
+BUJORELM_AT(result, position, 15);
 
 BUJORELM_SIZE(parsed, 20);
 BUJORELM_AT(parsed, good, 0);
@@ -387,7 +406,7 @@ struct bujorelm_result bujorelm_handle_frame(uint16_t alias, uint8_t write_lengt
  *
  * datagram       lent; any length may be handed in: one over 72 bytes is rejected with 0x1080
  *
- * Comes back: BUJORELM_REFUSED (B1 to B6), BUJORELM_REJECTED, BUJORELM_WRITTEN, BUJORELM_REPLIED or BUJORELM_UPDATE_COMPLETE, with
+ * Comes back: BUJORELM_REFUSED (any but B7), BUJORELM_REJECTED, BUJORELM_WRITTEN, BUJORELM_REPLIED or BUJORELM_UPDATE_COMPLETE, with
  * `frame_count` 0. The answer is the caller's to send: bujorelm_rejected or bujorelm_received_ok, and the reply by bujorelm_cut.
  */
 struct bujorelm_result bujorelm_handle_datagram(uint16_t alias, uint8_t write_lengths, const struct bujorelm_space *spaces,
@@ -502,6 +521,23 @@ static inline enum bujorelm_house bujorelm_house_of(struct bujorelm_result resul
     return (enum bujorelm_house)result.house;
 }
 
+/* Whether a result refuses one of the spaces: B2 to B5. */
+static inline bool bujorelm_refuses_space(struct bujorelm_result result)
+{
+    return result.kind == BUJORELM_REFUSED && result.house >= BUJORELM_HOUSE_B2 && result.house <= BUJORELM_HOUSE_B5;
+}
+
+/* Whether a result brings the position of a refused space. It is stored to `position`, which is left as it was where there is none: what is no
+   position cannot be taken for that of the first space. */
+static inline bool bujorelm_position_of(struct bujorelm_result result, size_t *position)
+{
+    if (!bujorelm_refuses_space(result) || result.position >= BUJORELM_SPACES_MAX) {
+        return false;
+    }
+    *position = result.position;
+    return true;
+}
+
 /* The code of a result, for a `switch`. */
 static inline enum bujorelm_code bujorelm_code_of(struct bujorelm_result result)
 {
@@ -514,7 +550,7 @@ static inline uint16_t bujorelm_source_of(uint32_t header)
     return header & 0xFFFu;
 }
 
-/* The size in bytes of a table of so many spaces, for a call's `spaces_size`. Any count over 16 gives the size of 17 spaces, which B1
+/* The size in bytes of a table of so many spaces, for a call's `spaces_size`. Any count over 16 gives the size of 17 spaces, which B11
    refuses without a look at the table: 16 times a very large count would wrap, and could come out as the size of a good table. */
 static inline size_t bujorelm_spaces_size(size_t count)
 {
@@ -566,14 +602,100 @@ static inline struct bujorelm_result bujorelm_node_handle_datagram(struct bujore
                                     node->memory_len, &node->lock, datagram, datagram_len, node->reply, sizeof node->reply);
 }
 
-/* The first house number that applies to the node as it stands, or BUJORELM_HOUSE_NONE: a test for the start of the firmware, so that a
-   bad description shows before the first frame. It changes nothing. */
-static inline enum bujorelm_house bujorelm_node_check(const struct bujorelm_node *node)
+/* What comes of a frame that no board is interested in, for the node as it stands: BUJORELM_REFUSED with the first house number that applies,
+   or else BUJORELM_IGNORED. A test for the start of the firmware, so that a bad description shows before the first frame. It changes nothing. */
+static inline struct bujorelm_result bujorelm_node_check(const struct bujorelm_node *node)
 {
     /* Header 0 is no datagram frame: a good node ignores it and a bad one is refused, so that nothing is written through this pointer. */
     struct bujorelm_node *const same = (struct bujorelm_node *)(uintptr_t)node;
 
-    return bujorelm_house_of(bujorelm_node_handle_frame(same, 0, NULL, 0));
+    return bujorelm_node_handle_frame(same, 0, NULL, 0);
+}
+
+/* Puts a text, or a number in decimal digits, at a place, and returns the place behind it. */
+static inline char *bujorelm_put_text(char *at, const char *text)
+{
+    while (*text != '\0') {
+        *at++ = *text++;
+    }
+    return at;
+}
+
+static inline char *bujorelm_put_number(char *at, uint8_t number)
+{
+    if (number >= 100) {
+        *at++ = (char)('0' + number / 100);
+    }
+    if (number >= 10) {
+        *at++ = (char)('0' + number / 10 % 10);
+    }
+    *at++ = (char)('0' + number % 10);
+    return at;
+}
+
+/* What is wrong by a house number; of B2 to B5, what is wrong with the space. */
+static inline const char *bujorelm_mistake_of(enum bujorelm_house house)
+{
+    switch (house) {
+    case BUJORELM_HOUSE_B11:
+        return "the description has more than 16 spaces";
+    case BUJORELM_HOUSE_B12:
+        return "memory has more than 65,536 bytes";
+    case BUJORELM_HOUSE_B13:
+        return "flash has more than 65,536 bytes";
+    case BUJORELM_HOUSE_B14:
+        return "the alias is not 1 to 4,095";
+    case BUJORELM_HOUSE_B2:
+        return "has its lowest address above its highest";
+    case BUJORELM_HOUSE_B3:
+        return "reaches past the end of its memory or flash";
+    case BUJORELM_HOUSE_B4:
+        return "has to be read-only, since it lies in flash or is 0xFF";
+    case BUJORELM_HOUSE_B5:
+        return "has the number of an earlier space";
+    case BUJORELM_HOUSE_B6:
+        return "the reply buffer has fewer than 72 bytes";
+    case BUJORELM_HOUSE_B7:
+        return "the reception state holds what no call has left there";
+    case BUJORELM_HOUSE_NONE:
+    default:
+        return "a mistake that this header does not know";
+    }
+}
+
+/* The space that a result refuses, by its position where it brings one. */
+static inline char *bujorelm_put_space(char *at, struct bujorelm_result result)
+{
+    size_t position = 0;
+
+    if (!bujorelm_position_of(result, &position)) {
+        return bujorelm_put_text(at, "a space ");
+    }
+    at = bujorelm_put_text(at, "space ");
+    at = bujorelm_put_number(at, (uint8_t)position);
+    return bujorelm_put_text(at, ", counted from 0, ");
+}
+
+/*
+ * Why a call was refused, as a sentence for whoever builds the board: "B3: space 3, counted from 0, reaches past the end of its memory or
+ * flash". `text` is lent, BUJORELM_SENTENCE_SIZE bytes. The sentence ends with a zero byte; what is behind that is left as it was. Of a result
+ * of any other kind it says that the call was not refused. Returns `text`.
+ */
+static inline char *bujorelm_sentence_of(struct bujorelm_result result, char *text)
+{
+    char *at = text;
+
+    if (result.kind == BUJORELM_REFUSED) {
+        at = bujorelm_put_text(at, "B");
+        at = bujorelm_put_number(at, result.house);
+        at = bujorelm_put_text(at, ": ");
+        at = bujorelm_refuses_space(result) ? bujorelm_put_space(at, result) : at;
+        at = bujorelm_put_text(at, bujorelm_mistake_of(bujorelm_house_of(result)));
+    } else {
+        at = bujorelm_put_text(at, "the call was not refused");
+    }
+    *at = '\0';
+    return text;
 }
 
 /* Hands frames to `send`, one after the other. Returns false where `send` did. */

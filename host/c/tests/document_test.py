@@ -44,6 +44,20 @@ def check_archive(text):
     expect(("%xmm" in code, "%ymm" in code, "%zmm" in code), (True, False, False), "the archive's vector registers")
 
 
+def check_refusals(text, program, build, folder):
+    """What the program prints for each mistake that the document plants in it."""
+    rows = re.findall(r"^\| `\.(\w+) = (\w+)`(?: in the (first|second).*?)? \| (B\d+: .*) \|$", text, re.M)
+    expect(len(rows), 3, "the mistakes that the document plants")
+    for field, value, which, sentence in rows:
+        # The field of the first space or of the second, or the only one of that name.
+        found = list(re.finditer(rf"\.{field} = \w+", program))[1 if which == "second" else 0]
+        with open(os.path.join(folder, "board.c"), "w", encoding="utf-8") as file:
+            file.write(program[:found.start()] + f".{field} = {value}" + program[found.end():])
+        output(["sh", "-eu", "-c", build], cwd=folder)
+        done = subprocess.run(["./board"], capture_output=True, check=False, text=True, cwd=folder)
+        expect((done.returncode, done.stdout, done.stderr), (1, "", f"{sentence}\n"), f"what the program prints with .{field} = {value}")
+
+
 def check_host(text):
     """The bounds of the host."""
     host = source("host/c/host.c")
@@ -78,6 +92,7 @@ def main():
         output(["sh", "-eu", "-c", shell[1]], cwd=folder)
         expect(output(["./board"], cwd=folder), outputs[0], "what the program prints")
         expect(output(["sh", "-eu", "-c", shell[2]], cwd=folder), outputs[1], "what the host prints")
+        check_refusals(text, program[0], shell[1], folder)
 
     # The figures of the stack. They differ a little between compilers, so only the calls and the bound must agree.
     test = source("host/c/tests/stack.c")

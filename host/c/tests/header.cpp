@@ -18,16 +18,19 @@ int main()
     const uint8_t options[] = {0x20, 0x80};
     bujorelm_result answer;
     bujorelm_carry carry = bujorelm_carry();
+    char sentence[BUJORELM_SENTENCE_SIZE];
+    size_t position = 7;
     int frames = 0;
 
     description.alias = 0x22B;
     description.count = sizeof spaces / sizeof spaces[0];
     description.spaces = spaces;
     bujorelm_node_start(&node, &description, NULL, 0, memory, sizeof memory);
-    if (!bujorelm_version_fits() || bujorelm_node_check(&node) != BUJORELM_HOUSE_NONE ||
+    if (!bujorelm_version_fits() || bujorelm_node_check(&node).kind != BUJORELM_IGNORED ||
         !bujorelm_node_receive(&node, 0x1A22B123, options, sizeof options, count_frame, &frames, &answer) ||
         answer.kind != BUJORELM_REPLIED || answer.reply_len != 7 || answer.frame_count != 2 || frames != 2 ||
         bujorelm_house_of(answer) != BUJORELM_HOUSE_NONE || bujorelm_code_of(answer) != BUJORELM_CODE_NONE ||
+        bujorelm_position_of(answer, &position) || position != 7 || bujorelm_sentence_of(answer, sentence)[0] != 't' ||
         !bujorelm_next_line(reinterpret_cast<const uint8_t *>("\n"), 1, 0, carry).complete) {
         std::puts("header: the library does not answer in C++");
         return 1;

@@ -100,18 +100,20 @@ static bool is_same_outside(const uint8_t *a, const uint8_t *b, size_t end, size
     return at <= end && len <= end - at && memcmp(a, b, at) == 0 && memcmp(a + at + len, b + at + len, end - at - len) == 0;
 }
 
-/* Whether the numbers are just those that the kind names, of a kind that changes no memory. The number of frames is looked at elsewhere, and
-   padding is not compared. */
+/* What stands where there is no position; the header's own name for it is not used, so that a wrong one shows. */
+#define NO_POSITION 255u
+
+/* Whether the numbers are just those that the kind names, of a kind that changes no memory. The number of frames is looked at elsewhere. */
 static bool is_answer(struct bujorelm_result a, enum bujorelm_kind kind, uint8_t house, uint8_t flags, uint16_t code, size_t reply_len)
 {
     return a.kind == kind && a.house == house && a.flags == flags && a.code == code && a.reply_len == reply_len && a.changed_at == 0 &&
-           a.changed_len == 0;
+           a.changed_len == 0 && a.position == NO_POSITION;
 }
 
 static bool is_written(struct bujorelm_result a, size_t at, size_t len)
 {
     return a.kind == BUJORELM_WRITTEN && a.house == 0 && a.flags == 0 && a.code == 0 && a.reply_len == 0 && a.changed_at == at &&
-           a.changed_len == len;
+           a.changed_len == len && a.position == NO_POSITION;
 }
 
 static bool is_update_complete(struct bujorelm_result a)
@@ -123,12 +125,21 @@ static bool is_update_complete(struct bujorelm_result a)
 static bool same_result(struct bujorelm_result a, struct bujorelm_result b)
 {
     return a.kind == b.kind && a.house == b.house && a.flags == b.flags && a.code == b.code && a.reply_len == b.reply_len &&
-           a.changed_at == b.changed_at && a.changed_len == b.changed_len;
+           a.changed_at == b.changed_at && a.changed_len == b.changed_len && a.position == b.position;
+}
+
+/* Whether a call was refused by a house number, at a position or at none. */
+static bool is_house_at(struct bujorelm_result a, uint8_t house, uint8_t position)
+{
+    const uint8_t given = a.position;
+
+    a.position = NO_POSITION;
+    return is_answer(a, BUJORELM_REFUSED, house, 0, 0, 0) && given == position;
 }
 
 static bool is_house(struct bujorelm_result a, uint8_t house)
 {
-    return is_answer(a, BUJORELM_REFUSED, house, 0, 0, 0);
+    return is_house_at(a, house, NO_POSITION);
 }
 
 static bool is_refusal(struct bujorelm_result answer, uint16_t code)
@@ -510,7 +521,7 @@ static void test_session(void)
     struct line_sink sink = {.len = 0};
 
     board_demonstration(&b);
-    CHECK(bujorelm_node_check(&b.node) == BUJORELM_HOUSE_NONE);
+    CHECK(bujorelm_node_check(&b.node).kind == BUJORELM_IGNORED);
     for (size_t i = 0; i < sizeof input / sizeof input[0]; i++) {
         const struct bujorelm_parsed line = bujorelm_parse_line((const uint8_t *)input[i], strlen(input[i]));
         struct bujorelm_result answer;
@@ -851,23 +862,23 @@ static void test_changed(void)
     board_free(&b);
 }
 
-/* Whether a result has these bytes, which is how the library sees it. The last is padding and is not looked at. */
+/* Whether a result has these bytes, which is how the library sees it. */
 static bool has_bytes(struct bujorelm_result result, const char *hex)
 {
     uint8_t expected[16];
 
-    return from_hex(hex, expected) == 15 && memcmp(&result, expected, 15) == 0;
+    return from_hex(hex, expected) == 16 && memcmp(&result, expected, 16) == 0;
 }
 
 static void test_result_bytes(void)
 {
     static const char *const cases[][2] = {
-        {"2000 00000CC1 20 0102030405", "05000000 0000 00 00 BE0C0000 05 00 01"},
-        {"2000 00010002 20 01", "05000000 0000 00 00 FFFF0000 01 00 01"},
-        {"20A8", "07000000 0000 00 00 00000000 00 00 01"},
-        {"2080", "06000000 0000 00 80 00000000 00 07 02"},
-        {"2040 00000003 20 40", "06000000 0000 00 80 00000000 00 47 0A"},
-        {"2044", "04000000 4110 00 00 00000000 00 00 01"},
+        {"2000 00000CC1 20 0102030405", "05000000 0000 00 00 BE0C0000 05 00 01 FF"},
+        {"2000 00010002 20 01", "05000000 0000 00 00 FFFF0000 01 00 01 FF"},
+        {"20A8", "07000000 0000 00 00 00000000 00 00 01 FF"},
+        {"2080", "06000000 0000 00 80 00000000 00 07 02 FF"},
+        {"2040 00000003 20 40", "06000000 0000 00 80 00000000 00 47 0A FF"},
+        {"2044", "04000000 4110 00 00 00000000 00 00 01 FF"},
     };
     struct draft d = draft_demonstration();
     uint8_t datagram[BUJORELM_DATAGRAM_MAX];
@@ -883,12 +894,15 @@ static void test_result_bytes(void)
         board_free(&b);
     }
     board_new(&b, &d, 0, BUJORELM_STORE_MAX, BUJORELM_REPLY_MIN);
-    CHECK(has_bytes(feed_hex(&b, LAST, 0x123, ""), "03000000 4020 00 00 00000000 00 00 01"));
-    CHECK(has_bytes(feed_hex(&b, FIRST, 0x123, ""), "02000000 0000 00 00 00000000 00 00 00"));
-    CHECK(has_bytes(feed(&b, 0, NULL, 0), "01000000 0000 00 00 00000000 00 00 00"));
+    CHECK(has_bytes(feed_hex(&b, LAST, 0x123, ""), "03000000 4020 00 00 00000000 00 00 01 FF"));
+    CHECK(has_bytes(feed_hex(&b, FIRST, 0x123, ""), "02000000 0000 00 00 00000000 00 00 00 FF"));
+    CHECK(has_bytes(feed(&b, 0, NULL, 0), "01000000 0000 00 00 00000000 00 00 00 FF"));
     b.node.reception.places[7].held = 1;
     b.node.reception.places[7].len = 73;
-    CHECK(has_bytes(feed(&b, 0, NULL, 0), "00000000 0000 07 00 00000000 00 00 00"));
+    CHECK(has_bytes(feed(&b, 0, NULL, 0), "00000000 0000 07 00 00000000 00 00 00 FF"));
+    b.node.memory_len = 0;
+    CHECK(has_bytes(feed(&b, 0, NULL, 0), "00000000 0000 03 00 00000000 00 00 00 00"));
+    b.node.memory_len = BUJORELM_STORE_MAX;
     board_free(&b);
 }
 
@@ -945,8 +959,9 @@ static void test_left_out(void)
 
 /* ---- House numbers ---- */
 
-/* A board that is refused: both calls say so, and nothing changes. `datagrams` is false for B7, which the call for a datagram lacks. */
-static void check_refused(struct board *b, uint8_t house, bool datagrams, const char *word)
+/* A board that is refused: both calls say so, with the same position, and nothing changes. `datagrams` is false for B7, which the call for a
+   datagram lacks. */
+static void check_refused_at(struct board *b, uint8_t house, uint8_t position, bool datagrams, const char *word)
 {
     /* Would be a write, and the opening of a datagram. */
     static const uint8_t write[] = {0x20, 0x01, 0, 0, 0, 0, 0x77};
@@ -957,11 +972,11 @@ static void check_refused(struct board *b, uint8_t house, bool datagrams, const 
         give_up("malloc");
     }
     memcpy(memory, b->memory.bytes, b->memory.len);
-    CHECK_CASE(is_house(feed(b, header_of(SINGLE, 0x22B, 0x123), write, sizeof write), house), word);
-    CHECK_CASE(is_house(feed(b, header_of(FIRST, 0x22B, 0x124), write, sizeof write), house), word);
-    CHECK_CASE(is_house(feed(b, 0, NULL, 0), house), word);
+    CHECK_CASE(is_house_at(feed(b, header_of(SINGLE, 0x22B, 0x123), write, sizeof write), house, position), word);
+    CHECK_CASE(is_house_at(feed(b, header_of(FIRST, 0x22B, 0x124), write, sizeof write), house, position), word);
+    CHECK_CASE(is_house_at(feed(b, 0, NULL, 0), house, position), word);
     if (datagrams) {
-        CHECK_CASE(is_house(hand_over(b, write, sizeof write), house), word);
+        CHECK_CASE(is_house_at(hand_over(b, write, sizeof write), house, position), word);
     }
     CHECK_CASE(same_places(&b->node.reception, &before.reception), word);
     CHECK_CASE(memcmp(b->node.lock.bytes, before.lock.bytes, 6) == 0, word);
@@ -971,8 +986,13 @@ static void check_refused(struct board *b, uint8_t house, bool datagrams, const 
     free(memory);
 }
 
-static void check_draft_refused(const struct draft *d, size_t flash_len, size_t memory_len, size_t reply_len, uint8_t house,
-                                const char *word)
+static void check_refused(struct board *b, uint8_t house, bool datagrams, const char *word)
+{
+    check_refused_at(b, house, NO_POSITION, datagrams, word);
+}
+
+static void check_draft_refused_at(const struct draft *d, size_t flash_len, size_t memory_len, size_t reply_len, uint8_t house,
+                                   uint8_t position, const char *word)
 {
     struct board b;
 
@@ -983,8 +1003,14 @@ static void check_draft_refused(const struct draft *d, size_t flash_len, size_t 
             .held = (uint8_t)(i == 4 ? 0 : 0xAA + i), .len = (uint8_t)(70 + i), .source = 5, .unused = {(uint8_t)i, 2, 3, 0xFF}};
     }
     b.node.lock.bytes[2] = 9;
-    check_refused(&b, house, true, word);
+    check_refused_at(&b, house, position, true, word);
     board_free(&b);
+}
+
+static void check_draft_refused(const struct draft *d, size_t flash_len, size_t memory_len, size_t reply_len, uint8_t house,
+                                const char *word)
+{
+    check_draft_refused_at(d, flash_len, memory_len, reply_len, house, NO_POSITION, word);
 }
 
 static void check_accepted(const struct draft *d, size_t flash_len, size_t memory_len, const char *word)
@@ -992,7 +1018,7 @@ static void check_accepted(const struct draft *d, size_t flash_len, size_t memor
     struct board b;
 
     board_new(&b, d, flash_len, memory_len, BUJORELM_REPLY_MIN);
-    CHECK_CASE(bujorelm_node_check(&b.node) == BUJORELM_HOUSE_NONE, word);
+    CHECK_CASE(is_answer(bujorelm_node_check(&b.node), BUJORELM_IGNORED, 0, 0, 0, 0), word);
     CHECK_CASE(is_answer(feed(&b, 0, NULL, 0), BUJORELM_IGNORED, 0, 0, 0, 0), word);
     board_free(&b);
 }
@@ -1006,23 +1032,23 @@ static void test_house_numbers(void)
 
     d = good;
     d.count = 17;
-    check_draft_refused(&d, 16, 48, 72, 1, "17 spaces");
+    check_draft_refused(&d, 16, 48, 72, 11, "17 spaces");
     d.count = SIZE_MAX;
-    check_draft_refused(&d, 16, 48, 72, 1, "more spaces than can be");
+    check_draft_refused(&d, 16, 48, 72, 11, "more spaces than can be");
     d.count = SIZE_MAX / 16 + 1;
-    check_draft_refused(&d, 16, 48, 72, 1, "so many spaces that 16 times their number wraps to 0");
+    check_draft_refused(&d, 16, 48, 72, 11, "so many spaces that 16 times their number wraps to 0");
     d.count = SIZE_MAX / 16 + 1 + 4;
-    check_draft_refused(&d, 16, 48, 72, 1, "so many spaces that 16 times their number wraps to 64");
+    check_draft_refused(&d, 16, 48, 72, 11, "so many spaces that 16 times their number wraps to 64");
     d = good;
-    check_draft_refused(&d, 65537, 48, 72, 1, "flash of 65,537 bytes");
-    check_draft_refused(&d, 16, 65537, 72, 1, "memory of 65,537 bytes");
+    check_draft_refused(&d, 65537, 48, 72, 13, "flash of 65,537 bytes");
+    check_draft_refused(&d, 16, 65537, 72, 12, "memory of 65,537 bytes");
     check_accepted(&d, 65536, 65536, "65,536 bytes of both");
     d.alias = 0;
-    check_draft_refused(&d, 16, 48, 72, 1, "alias 0");
+    check_draft_refused(&d, 16, 48, 72, 14, "alias 0");
     d.alias = 4096;
-    check_draft_refused(&d, 16, 48, 72, 1, "alias 4,096");
+    check_draft_refused(&d, 16, 48, 72, 14, "alias 4,096");
     d.alias = 0xFFFF;
-    check_draft_refused(&d, 16, 48, 72, 1, "alias 65,535");
+    check_draft_refused(&d, 16, 48, 72, 14, "alias 65,535");
     d.alias = 4095;
     check_accepted(&d, 16, 48, "alias 4,095");
     d.alias = 1;
@@ -1030,35 +1056,35 @@ static void test_house_numbers(void)
 
     d = good;
     d.spaces[1].lowest = 0x30;
-    check_draft_refused(&d, 16, 48, 72, 2, "lowest above highest");
+    check_draft_refused_at(&d, 16, 48, 72, 2, 1, "lowest above highest");
     d.spaces[1].lowest = 0x2F;
     d.spaces[1].offset = 47;
     check_accepted(&d, 16, 48, "a space of one byte at the end of memory");
     d.spaces[1].offset = 48;
-    check_draft_refused(&d, 16, 48, 72, 3, "a space of one byte past the end of memory");
+    check_draft_refused_at(&d, 16, 48, 72, 3, 1, "a space of one byte past the end of memory");
     d = good;
-    check_draft_refused(&d, 16, 47, 72, 3, "memory a byte short");
-    check_draft_refused(&d, 15, 48, 72, 3, "flash a byte short");
+    check_draft_refused_at(&d, 16, 47, 72, 3, 1, "memory a byte short");
+    check_draft_refused_at(&d, 15, 48, 72, 3, 2, "flash a byte short");
     d.spaces[0].offset = UINT32_MAX;
-    check_draft_refused(&d, 16, 48, 72, 3, "the greatest offset");
+    check_draft_refused_at(&d, 16, 48, 72, 3, 0, "the greatest offset");
     d.spaces[0].highest = UINT32_MAX;
-    check_draft_refused(&d, 16, 48, 72, 3, "the greatest offset of the greatest space");
+    check_draft_refused_at(&d, 16, 48, 72, 3, 0, "the greatest offset of the greatest space");
 
     d = good;
     d.spaces[2].read_only = false;
-    check_draft_refused(&d, 16, 48, 72, 4, "writable in flash");
+    check_draft_refused_at(&d, 16, 48, 72, 4, 2, "writable in flash");
     d.spaces[2].in_flash = false;
-    check_draft_refused(&d, 16, 48, 72, 4, "0xFF writable in memory");
+    check_draft_refused_at(&d, 16, 48, 72, 4, 2, "0xFF writable in memory");
     d.spaces[2].read_only = true;
     check_accepted(&d, 16, 48, "0xFF read-only in memory");
     d = good;
     d.spaces[3].in_flash = true;
     d.spaces[3].offset = 0;
-    check_draft_refused(&d, 16, 48, 72, 4, "another space writable in flash");
+    check_draft_refused_at(&d, 16, 48, 72, 4, 3, "another space writable in flash");
 
     d = good;
     d.spaces[3].number = 0xFD;
-    check_draft_refused(&d, 16, 48, 72, 5, "a number twice");
+    check_draft_refused_at(&d, 16, 48, 72, 5, 3, "a number twice");
     d.count = 3;
     check_accepted(&d, 16, 48, "the second of them not described");
     d = good;
@@ -1069,9 +1095,9 @@ static void test_house_numbers(void)
     d.count = 16;
     check_accepted(&d, 16, 48, "16 spaces");
     d.spaces[15].number = 0;
-    check_draft_refused(&d, 16, 48, 72, 5, "the sixteenth as the first");
+    check_draft_refused_at(&d, 16, 48, 72, 5, 15, "the sixteenth as the first");
 
-    /* The first that applies: B1 before all; one space after the other; within a space B2, B3, B4, B5; then B6. */
+    /* The first that applies: the limits before all; one space after the other; within a space B2, B3, B4, B5; then B6. */
     d = good;
     d.spaces[1].number = 0xFD;
     d.spaces[1].in_flash = true;
@@ -1079,22 +1105,110 @@ static void test_house_numbers(void)
     d.spaces[1].lowest = 0x30;
     d.spaces[3].lowest = 0x110;
     d.alias = 0;
-    check_draft_refused(&d, 16, 48, 71, 1, "B1 first");
+    check_draft_refused(&d, 16, 48, 71, 14, "B14 first");
     d.alias = 1;
-    check_draft_refused(&d, 16, 48, 71, 2, "then B2");
+    check_draft_refused_at(&d, 16, 48, 71, 2, 1, "then B2");
     d.spaces[1].lowest = 0;
-    check_draft_refused(&d, 16, 48, 71, 3, "then B3");
+    check_draft_refused_at(&d, 16, 48, 71, 3, 1, "then B3");
     d.spaces[1].highest = 0;
     d.spaces[1].offset = 0;
-    check_draft_refused(&d, 16, 48, 71, 4, "then B4");
+    check_draft_refused_at(&d, 16, 48, 71, 4, 1, "then B4");
     d.spaces[1].in_flash = false;
-    check_draft_refused(&d, 16, 48, 71, 5, "then B5, before the last space's B2");
+    check_draft_refused_at(&d, 16, 48, 71, 5, 1, "then B5, before the last space's B2");
     d.spaces[1].number = 0xFE;
-    check_draft_refused(&d, 16, 48, 71, 2, "then the last space's B2");
+    check_draft_refused_at(&d, 16, 48, 71, 2, 3, "then the last space's B2");
     d.spaces[3].lowest = 0x100;
     check_draft_refused(&d, 16, 48, 71, 6, "then B6");
     check_draft_refused(&d, 16, 48, 1, 6, "B6 of one byte");
     check_draft_refused(&d, 16, 48, 0, 6, "B6 of none");
+}
+
+/* Boards that break several limits at once: the first of them in the order spaces, memory, flash, alias, whatever the spaces and the reply
+   buffer are. */
+static void test_limits_together(void)
+{
+    for (unsigned broken = 0; broken < 16; broken++) {
+        const uint8_t house = broken & 1 ? 11 : broken & 2 ? 12 : broken & 4 ? 13 : 14;
+        struct draft d = draft_demonstration();
+        char word[64];
+
+        snprintf(word, sizeof word, "limits 0x%X", broken);
+        d.count = broken & 1 ? 17 : d.count;
+        d.alias = broken & 8 ? 0 : d.alias;
+        for (unsigned bad_spaces = 0; bad_spaces < 2; bad_spaces++) {
+            const size_t memory_len = broken & 2 ? 65537 : 48;
+            const size_t flash_len = broken & 4 ? 65537 : 16;
+
+            if (broken != 0) {
+                check_draft_refused(&d, flash_len, memory_len, 72, house, word);
+                check_draft_refused(&d, flash_len, memory_len, 71, house, word);
+            } else if (bad_spaces != 0) {
+                check_draft_refused_at(&d, flash_len, memory_len, 71, 2, 0, word);
+            } else {
+                check_accepted(&d, flash_len, memory_len, word);
+            }
+            for (size_t i = 0; i < 4; i++) {
+                d.spaces[i].lowest = UINT32_MAX;
+            }
+        }
+    }
+}
+
+/* Spoils a space, so that it is refused by a house number; B5 by the number of the space before it. */
+static void spoil(struct draft *d, size_t position, uint8_t house)
+{
+    struct bujorelm_space *const s = &d->spaces[position];
+
+    switch (house) {
+    case 2:
+        s->lowest = 1;
+        s->highest = 0;
+        break;
+    case 3:
+        s->offset = 48;
+        break;
+    case 4:
+        s->in_flash = true;
+        break;
+    default:
+        s->number = d->spaces[position - 1].number;
+        break;
+    }
+}
+
+/* Sixteen good spaces of one byte each. */
+static struct draft draft_of_sixteen(void)
+{
+    struct draft d = draft_demonstration();
+
+    d.count = 16;
+    for (size_t i = 0; i < 16; i++) {
+        d.spaces[i] = (struct bujorelm_space){.number = (uint8_t)(0x40 + i), .offset = (uint32_t)i};
+    }
+    return d;
+}
+
+/* Every space of sixteen refused by each of B2 to B5, alone and with all spaces behind it: the first bad one's number and position are given.
+   B5 has no position 0, since no space is earlier. */
+static void test_positions(void)
+{
+    const struct draft good = draft_of_sixteen();
+
+    check_accepted(&good, 16, 48, "16 spaces");
+    for (uint8_t house = 2; house <= 5; house++) {
+        for (uint8_t position = house == 5; position < 16; position++) {
+            struct draft d = good;
+            char word[64];
+
+            snprintf(word, sizeof word, "B%u at %u", house, position);
+            spoil(&d, position, house);
+            check_draft_refused_at(&d, 16, 48, 72, house, position, word);
+            for (size_t i = position + 1u; i < 16; i++) {
+                spoil(&d, i, (uint8_t)(2 + (i + house) % 3));
+            }
+            check_draft_refused_at(&d, 16, 48, 71, house, position, word);
+        }
+    }
 }
 
 static void test_bad_states(void)
@@ -1104,18 +1218,18 @@ static void test_bad_states(void)
     board_demonstration(&b);
     b.node.reception.places[7] = (struct bujorelm_place){.held = 1, .len = 73, .source = 1};
     check_refused(&b, BUJORELM_HOUSE_B7, false, "73 bytes");
-    CHECK(bujorelm_node_check(&b.node) == BUJORELM_HOUSE_B7);
+    CHECK(is_house(bujorelm_node_check(&b.node), BUJORELM_HOUSE_B7));
     b.node.reception.places[7] = (struct bujorelm_place){.held = 1, .len = 255, .source = 1};
     check_refused(&b, BUJORELM_HOUSE_B7, false, "255 bytes");
     b.node.reception.places[7] = (struct bujorelm_place){.held = 1, .len = 0, .source = 4096};
     check_refused(&b, BUJORELM_HOUSE_B7, false, "source 4,096");
     b.node.reception.places[7] = (struct bujorelm_place){.held = 1, .len = 72, .source = 4095};
-    CHECK(bujorelm_node_check(&b.node) == BUJORELM_HOUSE_NONE);
+    CHECK(bujorelm_node_check(&b.node).kind == BUJORELM_IGNORED);
     b.node.reception.places[0] = (struct bujorelm_place){.held = 1, .len = 3, .source = 4095};
     check_refused(&b, BUJORELM_HOUSE_B7, false, "one source twice");
     /* A place that holds nothing is not looked at. */
     b.node.reception.places[0] = (struct bujorelm_place){.held = 0, .len = 200, .source = 0xFFFF};
-    CHECK(bujorelm_node_check(&b.node) == BUJORELM_HOUSE_NONE);
+    CHECK(bujorelm_node_check(&b.node).kind == BUJORELM_IGNORED);
     /* A whole datagram asks nothing of the state. */
     b.node.reception.places[7].len = 80;
     CHECK(is_update_complete(hand_over(&b, (const uint8_t *)"\x20\xA8", 2)));
@@ -1176,9 +1290,9 @@ static void test_table_bytes(void)
         set_byte(&d, 3, IN_FLASH_BYTE, (uint8_t)byte);
         check_space(&d, true, byte != 0 ? 0xF1 : 0x3E, word);
         /* The end that B3 looks for is that of flash or of memory by the same byte. */
-        check_draft_refused(&d, 48, 47, 72, 3, word);
+        check_draft_refused_at(&d, 48, 47, 72, 3, 1, word);
         if (byte != 0) {
-            check_draft_refused(&d, 47, 48, 72, 3, word);
+            check_draft_refused_at(&d, 47, 48, 72, 3, 3, word);
         } else {
             check_accepted(&d, 47, 48, word);
         }
@@ -1188,12 +1302,12 @@ static void test_table_bytes(void)
         if (byte != 0) {
             check_accepted(&d, 48, 48, word);
         } else {
-            check_draft_refused(&d, 48, 48, 72, 4, word);
+            check_draft_refused_at(&d, 48, 48, 72, 4, 3, word);
         }
         set_byte(&d, 3, READ_ONLY_BYTE, 0);
         set_byte(&d, 3, IN_FLASH_BYTE, (uint8_t)byte);
         if (byte != 0) {
-            check_draft_refused(&d, 48, 48, 72, 4, word);
+            check_draft_refused_at(&d, 48, 48, 72, 4, 3, word);
         } else {
             check_space(&d, false, 0x3E, word);
         }
@@ -1203,7 +1317,7 @@ static void test_table_bytes(void)
         if (byte != 0) {
             check_accepted(&d, 48, 48, word);
         } else {
-            check_draft_refused(&d, 48, 48, 72, 4, word);
+            check_draft_refused_at(&d, 48, 48, 72, 4, 2, word);
         }
         /* The byte that means nothing, alone. */
         d = draft_demonstration();
@@ -1214,7 +1328,7 @@ static void test_table_bytes(void)
     }
 }
 
-/* A table of any size in bytes: those behind the last whole space are no space, and the seventeenth space is B1. */
+/* A table of any size in bytes: those behind the last whole space are no space, and the seventeenth space is B11. */
 static void test_table_sizes(void)
 {
     struct bujorelm_space spaces[18];
@@ -1242,7 +1356,7 @@ static void test_table_sizes(void)
 
             answer = bujorelm_handle_datagram(1, 0, at, size, NULL, 0, memory, 1, &lock, question, 3, reply, sizeof reply);
             if (size / 16 > 16) {
-                CHECK(is_house(answer, BUJORELM_HOUSE_B1));
+                CHECK(is_house(answer, BUJORELM_HOUSE_B11));
             } else {
                 CHECK(is_answer(answer, BUJORELM_REPLIED, 0, 0x80, 0, 8));
                 CHECK(reply[1] == (number - 0x40u < size / 16 ? 0x87 : 0x86));
@@ -1254,7 +1368,7 @@ static void test_table_sizes(void)
     for (size_t i = 0; i < sizeof too_large / sizeof too_large[0]; i++) {
         answer = bujorelm_handle_datagram(1, 0, (const struct bujorelm_space *)(const void *)none.bytes, too_large[i], NULL, 0, memory, 1,
                                           &lock, NULL, 0, reply, sizeof reply);
-        CHECK(is_house(answer, BUJORELM_HOUSE_B1));
+        CHECK(is_house(answer, BUJORELM_HOUSE_B11));
     }
     guarded_free(&none);
 
@@ -1279,7 +1393,7 @@ static void test_place_bytes(void)
         places[5] = (struct bujorelm_place){.held = held, .len = 72, .source = 0xFFF, .unused = {1, 2, 3, held}};
         memcpy(b.node.pool + 144, "\x20\xA8", 2);
         before = b.node.reception;
-        CHECK(bujorelm_node_check(&b.node) == BUJORELM_HOUSE_NONE && same_places(&b.node.reception, &before));
+        CHECK(bujorelm_node_check(&b.node).kind == BUJORELM_IGNORED && same_places(&b.node.reception, &before));
         /* Ignored, and a datagram of one frame from a third tool: nothing of the places changes. */
         CHECK(feed(&b, header_of(LAST, 0x22C, 0x123), NULL, 0).kind == BUJORELM_IGNORED);
         CHECK(is_update_complete(feed_hex(&b, SINGLE, 0x456, "20A8")));
@@ -1301,7 +1415,7 @@ static void test_place_bytes(void)
         places[1] = (struct bujorelm_place){.held = held, .len = 73, .source = 1, .unused = {0, 0, 0, 0}};
         places[2] = (struct bujorelm_place){.held = held, .len = 0, .source = 0x1000, .unused = {0, 0, 0, 0}};
         if (held == 0) {
-            CHECK(bujorelm_node_check(&b.node) == BUJORELM_HOUSE_NONE);
+            CHECK(bujorelm_node_check(&b.node).kind == BUJORELM_IGNORED);
         } else {
             check_refused(&b, BUJORELM_HOUSE_B7, false, "73 bytes and source 4,096");
             places[1].held = 0;
@@ -1893,12 +2007,12 @@ static void test_inline_functions(void)
     CHECK(sink.count == 2 && answer.kind == BUJORELM_IGNORED);
     b.node.description.alias = 0;
     CHECK(bujorelm_node_receive(&b.node, header_of(SINGLE, 0x22B, 0x123), read_40, 7, keep_frame, &sink, &answer));
-    CHECK(sink.count == 2 && is_house(answer, BUJORELM_HOUSE_B1));
+    CHECK(sink.count == 2 && is_house(answer, BUJORELM_HOUSE_B14));
     b.node.description.alias = 0x22B;
     /* The calls for a node leave their answer in it, and touch no more of it than the library's own do. */
     memset(b.node.reply, UNTOUCHED, sizeof b.node.reply);
     memset(b.node.frames, UNTOUCHED, sizeof b.node.frames);
-    CHECK(bujorelm_node_check(&b.node) == BUJORELM_HOUSE_NONE);
+    CHECK(bujorelm_node_check(&b.node).kind == BUJORELM_IGNORED);
     answer = bujorelm_node_handle_datagram(&b.node, (const uint8_t *)"\x20\x80", 2);
     CHECK(is_answer(answer, BUJORELM_REPLIED, 0, 0x80, 0, 7) && memcmp(b.node.reply, "\x20\x82\xE0\x00\xF2\xFF\x10", 7) == 0);
     CHECK(is_untouched(b.node.reply, 7, sizeof b.node.reply));
@@ -1926,17 +2040,90 @@ static void test_node_start(void)
     CHECK(is_untouched(node.reply, 0, sizeof node.reply) && is_untouched((const uint8_t *)node.frames, 0, sizeof node.frames));
     CHECK(node.description.alias == 0x22B && node.description.write_lengths == 0xF2 && node.description.count == 4);
     CHECK(node.description.spaces == demonstration_spaces && node.flash == demonstration_flash && node.memory == memory);
-    CHECK(node.flash_len == 16 && node.memory_len == 48 && bujorelm_node_check(&node) == BUJORELM_HOUSE_NONE);
+    CHECK(node.flash_len == 16 && node.memory_len == 48 && bujorelm_node_check(&node).kind == BUJORELM_IGNORED);
 }
 
 /* The numbers of a result, as the types that a switch takes. */
 static void test_accessors(void)
 {
-    for (unsigned number = 0; number <= 7; number++) {
+    for (unsigned number = 0; number <= 14; number++) {
         struct bujorelm_result result = {.house = (uint8_t)number, .code = (uint16_t)(0x1080 + number)};
 
         CHECK(bujorelm_house_of(result) == (enum bujorelm_house)number);
         CHECK(bujorelm_code_of(result) == (enum bujorelm_code)(0x1080 + number));
+    }
+}
+
+/* The position of a refused space: stored where there is one, and nothing else taken for one. */
+static void test_position_of(void)
+{
+    for (unsigned kind = 0; kind <= BUJORELM_UPDATE_COMPLETE; kind++) {
+        for (unsigned house = 0; house <= 0xFF; house++) {
+            for (unsigned position = 0; position <= 0xFF; position++) {
+                const struct bujorelm_result result = {
+                    .kind = (enum bujorelm_kind)kind, .house = (uint8_t)house, .position = (uint8_t)position};
+                const bool brings_one = kind == 0 && house >= 2 && house <= 5 && position < 16;
+                size_t stored = 77;
+
+                CHECK(bujorelm_position_of(result, &stored) == brings_one);
+                CHECK(stored == (brings_one ? position : 77));
+            }
+        }
+    }
+}
+
+/* The sentence of a result; nothing is written behind its zero byte, and that is within the size. */
+static bool says(uint8_t kind, uint8_t house, uint8_t position, const char *sentence)
+{
+    const struct bujorelm_result result = {.kind = (enum bujorelm_kind)kind, .house = house, .position = position};
+    char text[BUJORELM_SENTENCE_SIZE + 1];
+
+    memset(text, UNTOUCHED, sizeof text);
+    if (bujorelm_sentence_of(result, text) != text || strcmp(text, sentence) != 0) {
+        fprintf(stderr, "got \"%s\"\n", text);
+        return false;
+    }
+    return strlen(text) < BUJORELM_SENTENCE_SIZE && is_untouched((const uint8_t *)text, strlen(text) + 1, sizeof text);
+}
+
+static void test_sentences(void)
+{
+    static const struct {
+        uint8_t house;
+        const char *nowhere;
+        const char *behind;
+    } cases[] = {
+        {11, "B11: the description has more than 16 spaces", NULL},
+        {12, "B12: memory has more than 65,536 bytes", NULL},
+        {13, "B13: flash has more than 65,536 bytes", NULL},
+        {14, "B14: the alias is not 1 to 4,095", NULL},
+        {2, "B2: a space has its lowest address above its highest", "has its lowest address above its highest"},
+        {3, "B3: a space reaches past the end of its memory or flash", "reaches past the end of its memory or flash"},
+        {4, "B4: a space has to be read-only, since it lies in flash or is 0xFF",
+         "has to be read-only, since it lies in flash or is 0xFF"},
+        {5, "B5: a space has the number of an earlier space", "has the number of an earlier space"},
+        {6, "B6: the reply buffer has fewer than 72 bytes", NULL},
+        {7, "B7: the reception state holds what no call has left there", NULL},
+        /* Numbers that no call gives today. */
+        {0, "B0: a mistake that this header does not know", NULL},
+        {1, "B1: a mistake that this header does not know", NULL},
+        {10, "B10: a mistake that this header does not know", NULL},
+        {255, "B255: a mistake that this header does not know", NULL},
+    };
+
+    for (size_t i = 0; i < sizeof cases / sizeof cases[0]; i++) {
+        CHECK_CASE(says(0, cases[i].house, NO_POSITION, cases[i].nowhere), cases[i].nowhere);
+        for (uint8_t position = 0; position < 16; position++) {
+            char sentence[200];
+
+            snprintf(sentence, sizeof sentence, "B%u: space %u, counted from 0, %s", cases[i].house, position,
+                     cases[i].behind != NULL ? cases[i].behind : "");
+            /* A position is named for B2 to B5 alone. */
+            CHECK_CASE(says(0, cases[i].house, position, cases[i].behind != NULL ? sentence : cases[i].nowhere), sentence);
+        }
+    }
+    for (uint8_t kind = 1; kind <= BUJORELM_UPDATE_COMPLETE; kind++) {
+        CHECK(says(kind, 3, 0, "the call was not refused"));
     }
 }
 
@@ -2260,7 +2447,7 @@ static void random_session(unsigned long frames)
     uint8_t flash[256];
     uint8_t memory[256];
     uint8_t lock[6];
-    uint8_t house;
+    struct bujorelm_result refused;
 
     memset(books, 0, sizeof books);
     memset(senders, 0, sizeof senders);
@@ -2272,9 +2459,9 @@ static void random_session(unsigned long frames)
     memcpy(flash, b.flash.bytes, flash_len);
     memcpy(memory, b.memory.bytes, memory_len);
     memcpy(lock, b.node.lock.bytes, 6);
-    house = (uint8_t)bujorelm_node_check(&b.node);
-    if (house == 0 && reply_len < 72) {
-        house = BUJORELM_HOUSE_B6;
+    refused = bujorelm_node_check(&b.node);
+    if (refused.kind != BUJORELM_REFUSED && reply_len < 72) {
+        refused = (struct bujorelm_result){.kind = BUJORELM_REFUSED, .house = BUJORELM_HOUSE_B6, .position = NO_POSITION};
     }
 
     for (unsigned long n = 0; n < frames; n++) {
@@ -2299,8 +2486,8 @@ static void random_session(unsigned long frames)
 
         CHECK(memcmp(b.flash.bytes, flash, flash_len) == 0);
         CHECK(follows_on(&before.reception, &b.node.reception));
-        if (house != 0) {
-            CHECK(is_house(answer, house));
+        if (refused.kind == BUJORELM_REFUSED) {
+            CHECK(is_house_at(answer, refused.house, refused.position));
             CHECK(same_places(&b.node.reception, &before.reception));
             CHECK(memcmp(b.node.pool, before.pool, sizeof before.pool) == 0);
         } else {
@@ -2383,6 +2570,8 @@ int main(int argc, char **argv)
     test_lock();
     test_left_out();
     test_house_numbers();
+    test_limits_together();
+    test_positions();
     test_bad_states();
     test_table_bytes();
     test_table_sizes();
@@ -2398,6 +2587,8 @@ int main(int argc, char **argv)
     test_inline_functions();
     test_node_start();
     test_accessors();
+    test_position_of();
+    test_sentences();
     test_version();
     for (unsigned long done = 0; done < frames; done += 500) {
         random_session(500);

@@ -160,7 +160,7 @@ static void start(void)
     d.count = BUJORELM_SPACES_MAX;
     d.spaces = spaces;
     bujorelm_node_start(&subject.node, &d, subject.flash, sizeof subject.flash, subject.memory, sizeof subject.memory);
-    CHECK(bujorelm_node_check(&subject.node) == BUJORELM_HOUSE_NONE);
+    CHECK(bujorelm_node_check(&subject.node).kind == BUJORELM_IGNORED);
 }
 
 /* A datagram with that command, some of them well formed and some not. */

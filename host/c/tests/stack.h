@@ -16,7 +16,6 @@ struct subject {
     struct bujorelm_frame frame;
     struct bujorelm_frame frames[BUJORELM_SENT_MAX];
     struct bujorelm_result answer;
-    enum bujorelm_house house;
     struct bujorelm_parsed parsed;
     struct bujorelm_carry carry;
     struct bujorelm_line line;

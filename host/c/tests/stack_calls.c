@@ -63,7 +63,7 @@ void call_version(void)
 
 void call_node_check(void)
 {
-    subject.house = bujorelm_node_check(&subject.node);
+    subject.answer = bujorelm_node_check(&subject.node);
 }
 
 /* What a driver's own function takes is not the library's. */

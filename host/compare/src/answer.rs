@@ -1,13 +1,18 @@
 //! Holds the answers of both sides in one common form.
 
-use crate::ffi::Numbers;
+use crate::ffi::{Numbers, NO_POSITION};
 use model::{FrameAnswer, HouseNumber};
 
 /// What comes of a call, whichever side made it.
 #[derive(Clone, Copy, Debug, PartialEq, Eq)]
 pub enum Answer {
-    /// Refused by this house number.
-    House(u8),
+    /// Refused by a house number.
+    House {
+        /// The number after the letter B.
+        number: u8,
+        /// The position of the refused space, counted from 0; `None` where no space is refused.
+        position: Option<usize>,
+    },
     /// The frame is ignored.
     Ignored,
     /// The frame is joined and not answered.
@@ -27,8 +32,9 @@ pub enum Answer {
     UpdateComplete,
     /// Received OK with flags 0x80, and a reply of this many bytes.
     Replied(usize),
-    /// Numbers of the library that mean nothing: an unknown kind, or a number that its kind does
-    /// not name and that is not 0.
+    /// Numbers of the library that mean nothing: an unknown kind, an unknown house number, a number
+    /// that its kind does not name and that is not 0, a position where there is none, or none where
+    /// there is one.
     Malformed(Numbers),
 }
 
@@ -38,10 +44,22 @@ impl Answer {
     #[must_use]
     pub const fn frames(self) -> usize {
         match self {
-            Self::House(_) | Self::Ignored | Self::Nothing | Self::Malformed(_) => 0,
+            Self::House { .. } | Self::Ignored | Self::Nothing | Self::Malformed(_) => 0,
             Self::Replied(length) => 1 + if length <= 8 { 1 } else { length.div_ceil(8) },
             _ => 1,
         }
+    }
+
+    /// Whether it is a refusal because of the board description: by a limit or by a space.
+    #[must_use]
+    pub const fn is_of_description(self) -> bool {
+        matches!(
+            self,
+            Self::House {
+                number: 2..=5 | 11..=14,
+                ..
+            }
+        )
     }
 
     /// Whether it is the answer to a finished datagram.
@@ -66,20 +84,36 @@ impl From<Numbers> for Answer {
             changed_len,
             reply_len,
             frame_count: _,
+            position,
         } = numbers;
-        match (kind, house, flags, code, changed_at, changed_len, reply_len) {
-            (0, 1..=7, 0, 0, 0, 0, 0) => Self::House(house),
-            (1, 0, 0, 0, 0, 0, 0) => Self::Ignored,
-            (2, 0, 0, 0, 0, 0, 0) => Self::Nothing,
-            (3, 0, 0, _, 0, 0, 0) => Self::TransportRefusal(code),
-            (4, 0, 0, _, 0, 0, 0) => Self::Rejected(code),
-            (5, 0, 0x00, 0, _, 1..=64, 0) => Self::Written {
+        // Only a refused space has a position.
+        let (number, position) = match (kind, house, position) {
+            (0, 2..=5, 0..=15) => (house, Some(usize::from(position))),
+            (0, 6 | 7 | 11..=14, NO_POSITION) | (1.., 0, NO_POSITION) => (house, None),
+            _ => return Self::Malformed(numbers),
+        };
+        match (kind, flags, code, changed_at, changed_len, reply_len) {
+            (0, 0, 0, 0, 0, 0) => Self::House { number, position },
+            (1, 0, 0, 0, 0, 0) => Self::Ignored,
+            (2, 0, 0, 0, 0, 0) => Self::Nothing,
+            (3, 0, _, 0, 0, 0) => Self::TransportRefusal(code),
+            (4, 0, _, 0, 0, 0) => Self::Rejected(code),
+            (5, 0x00, 0, _, 1..=64, 0) => Self::Written {
                 start: changed_at as usize,
                 count: usize::from(changed_len),
             },
-            (6, 0, 0x80, 0, 0, 0, _) => Self::Replied(usize::from(reply_len)),
-            (7, 0, 0x00, 0, 0, 0, 0) => Self::UpdateComplete,
+            (6, 0x80, 0, 0, 0, _) => Self::Replied(usize::from(reply_len)),
+            (7, 0x00, 0, 0, 0, 0) => Self::UpdateComplete,
             _ => Self::Malformed(numbers),
+        }
+    }
+}
+
+impl From<HouseNumber> for Answer {
+    fn from(house: HouseNumber) -> Self {
+        Self::House {
+            number: house.number(),
+            position: house.position(),
         }
     }
 }
@@ -87,7 +121,7 @@ impl From<Numbers> for Answer {
 impl From<Result<model::Answer, HouseNumber>> for Answer {
     fn from(result: Result<model::Answer, HouseNumber>) -> Self {
         match result {
-            Err(house) => Self::House(house.number()),
+            Err(house) => Self::from(house),
             Ok(model::Answer::Rejected(code)) => Self::Rejected(code),
             Ok(model::Answer::Written { start, count }) => Self::Written { start, count },
             Ok(model::Answer::UpdateComplete) => Self::UpdateComplete,
@@ -99,7 +133,7 @@ impl From<Result<model::Answer, HouseNumber>> for Answer {
 impl From<Result<FrameAnswer, HouseNumber>> for Answer {
     fn from(result: Result<FrameAnswer, HouseNumber>) -> Self {
         match result {
-            Err(house) => Self::House(house.number()),
+            Err(house) => Self::from(house),
             Ok(FrameAnswer::Ignored) => Self::Ignored,
             Ok(FrameAnswer::Nothing) => Self::Nothing,
             Ok(FrameAnswer::TransportRefusal(code)) => Self::TransportRefusal(code),
@@ -121,22 +155,36 @@ mod tests {
         changed_len: 0,
         reply_len: 0,
         frame_count: 0,
+        position: NO_POSITION,
     };
 
     const fn of(kind: u32) -> Numbers {
         Numbers { kind, ..NONE }
     }
 
+    const fn refused(house: u8, position: u8) -> Numbers {
+        Numbers {
+            house,
+            position,
+            ..NONE
+        }
+    }
+
+    const fn house(number: u8, position: Option<usize>) -> Answer {
+        Answer::House { number, position }
+    }
+
     /// The numbers of each kind, what they say, and how many frames are sent.
-    fn good() -> [(Numbers, Answer, usize); 8] {
-        let (mut house, mut refusal, mut rejected) = (of(0), of(3), of(4));
-        (house.house, refusal.code, rejected.code) = (3, 0x2020, 0x1080);
+    fn good() -> [(Numbers, Answer, usize); 9] {
+        let (mut refusal, mut rejected) = (of(3), of(4));
+        (refusal.code, rejected.code) = (0x2020, 0x1080);
         let (mut written, mut replied) = (of(5), of(6));
         (written.changed_at, written.changed_len) = (65_472, 64);
         (replied.flags, replied.reply_len) = (0x80, 10);
         let (start, count) = (65_472, 64);
         [
-            (house, Answer::House(3), 0),
+            (refused(3, 12), house(3, Some(12)), 0),
+            (refused(6, NO_POSITION), house(6, None), 0),
             (of(1), Answer::Ignored, 0),
             (of(2), Answer::Nothing, 0),
             (refusal, Answer::TransportRefusal(0x2020), 1),
@@ -158,14 +206,15 @@ mod tests {
     #[test]
     fn numbers_that_their_kind_does_not_name_are_found() {
         for (numbers, ..) in good() {
-            let mut spoilt = vec![numbers; 7];
+            let mut spoilt = vec![numbers; 8];
             spoilt[0].kind |= 0x100;
             spoilt[1].flags |= 1;
-            spoilt[2].house |= 8;
+            spoilt[2].house |= 0x80;
             spoilt[3].code |= 1;
             spoilt[4].changed_at |= 1;
             spoilt[5].changed_len |= 1;
             spoilt[6].reply_len |= 1;
+            spoilt[7].position ^= 0x80;
             // Where the kind names the number, it may be another one.
             spoilt.retain(|spoilt| match numbers.kind {
                 3 | 4 => spoilt.code == numbers.code,
@@ -173,7 +222,7 @@ mod tests {
                 6 => spoilt.reply_len == numbers.reply_len,
                 _ => true,
             });
-            assert!(spoilt.len() >= 5);
+            assert!(spoilt.len() >= 6);
             for numbers in spoilt {
                 assert_eq!(Answer::from(numbers), Answer::Malformed(numbers));
             }
@@ -183,5 +232,82 @@ mod tests {
             written.changed_len = changed_len;
             assert_eq!(Answer::from(written), Answer::Malformed(written));
         }
+    }
+
+    #[test]
+    fn the_house_numbers_and_their_positions() {
+        for number in 2..=5 {
+            for position in 0..=15 {
+                let expected = house(number, Some(usize::from(position)));
+                assert_eq!(Answer::from(refused(number, position)), expected);
+            }
+        }
+        for number in [6, 7, 11, 12, 13, 14] {
+            let numbers = refused(number, NO_POSITION);
+            assert_eq!(Answer::from(numbers), house(number, None));
+        }
+        let last = Answer::from(HouseNumber::B5(15));
+        assert_eq!(last, Answer::from(refused(5, 15)));
+        // The first position is one, and none is none.
+        let first = Answer::from(HouseNumber::B2(0));
+        assert_eq!(first, Answer::from(refused(2, 0)));
+        assert_ne!(first, house(2, None));
+        let none = Answer::from(HouseNumber::B11);
+        assert_eq!(none, Answer::from(refused(11, NO_POSITION)));
+        assert_ne!(none, house(11, Some(0)));
+    }
+
+    #[test]
+    fn another_house_number_or_position_is_found() {
+        let mut good = 0;
+        for number in 0..=255 {
+            for position in 0..=255 {
+                let numbers = refused(number, position);
+                match number {
+                    2..=5 if position <= 15 => good += 1,
+                    6 | 7 | 11..=14 if position == NO_POSITION => good += 1,
+                    _ => assert_eq!(Answer::from(numbers), Answer::Malformed(numbers)),
+                }
+            }
+        }
+        assert_eq!(good, 4 * 16 + 6);
+    }
+
+    #[test]
+    fn a_position_where_there_is_none_is_found() {
+        // Nor is it 0: a blank is not a zero.
+        for (numbers, ..) in good() {
+            if numbers.position != NO_POSITION {
+                continue;
+            }
+            for position in [0, 1, 15, 16, 254] {
+                let spoilt = Numbers {
+                    position,
+                    ..numbers
+                };
+                assert_eq!(Answer::from(spoilt), Answer::Malformed(spoilt));
+            }
+        }
+    }
+
+    #[test]
+    fn no_position_where_there_is_one_is_found() {
+        for number in 2..=5 {
+            for position in [16, 17, 254, NO_POSITION] {
+                let numbers = refused(number, position);
+                assert_eq!(Answer::from(numbers), Answer::Malformed(numbers));
+            }
+        }
+    }
+
+    #[test]
+    fn the_refusals_because_of_the_description() {
+        for number in [2, 3, 4, 5, 11, 12, 13, 14] {
+            assert!(house(number, None).is_of_description());
+        }
+        for number in [6, 7, 9] {
+            assert!(!house(number, None).is_of_description());
+        }
+        assert!(!Answer::Ignored.is_of_description());
     }
 }

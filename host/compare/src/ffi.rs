@@ -31,7 +31,9 @@ pub const SENT_SIZE: usize = MOST_SENT * FRAME_SIZE;
 pub const CARRY_SIZE: usize = 29;
 /// The version of the edge that this module is written for: major in the upper 16 bits, minor in
 /// the lower 16.
-pub const VERSION: u32 = 0x0002_0000;
+pub const VERSION: u32 = 0x0003_0000;
+/// In the place of a position where there is none. It is not 0, which is the first space's.
+pub const NO_POSITION: u8 = 255;
 
 /// The lock memory.
 pub type Lock = [u8; 6];
@@ -83,6 +85,9 @@ pub struct Numbers {
     pub reply_len: u8,
     /// How many frames are to be sent, for a call that handles a frame.
     pub frame_count: u8,
+    /// The position of the refused space, counted from 0, for kind 0 with B2 to B5; else
+    /// `NO_POSITION`.
+    pub position: u8,
 }
 
 /// A frame; its data are the first `len` bytes.
@@ -371,6 +376,7 @@ mod tests {
         assert_eq!(offset_of!(Numbers, changed_len), 12);
         assert_eq!(offset_of!(Numbers, reply_len), 13);
         assert_eq!(offset_of!(Numbers, frame_count), 14);
+        assert_eq!(offset_of!(Numbers, position), 15);
         assert_eq!(size_of::<Frame>(), FRAME_SIZE);
         assert_eq!(offset_of!(Frame, bytes), 8);
         assert_eq!(size_of::<Parsed>(), 20);

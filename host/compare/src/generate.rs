@@ -210,34 +210,107 @@ fn good_space(
     }
 }
 
-/// Spoils a board in one way, so that mostly one of B1 to B5 refuses it.
+/// Spoils a board in one way, so that mostly one of B11 to B14 or of B2 to B5 refuses it.
 pub fn spoil_board(random: &mut Random, board: &mut Board) {
-    match random.below(15) {
-        0 => board.alias = random.pick(&[0, 0x1000, 0x1001, 0xFFFF, 0x1000 | board.alias]),
-        1 => match random.below(8) {
-            0 => board.memory_len = LARGEST_STORE + 1,
-            1 => board.flash_len = LARGEST_STORE + 1,
-            _ => board.alias = 0x1000 + random.below(0xF000) as u16,
-        },
-        2..=4 => spoil_table(random, board),
-        _ => {
-            let mut spaces = board.spaces.clone();
-            spoil_spaces(random, board, &mut spaces);
-            board.set_table(table_of(random, &spaces));
+    match random.below(120) {
+        0..=13 => board.alias = bad_alias(random, board.alias),
+        // A call with a store that is too large takes as long as some tens of the others, so that
+        // there are few.
+        14 => {
+            if random.once_in(2) {
+                board.memory_len = excess_store(random);
+            } else {
+                board.flash_len = excess_store(random);
+            }
         }
+        15 => break_limits(random, board),
+        16..=39 => spoil_table(random, board),
+        40..=99 => spoil_spaces(random, board, 1),
+        _ => {
+            let times = random.between(2, 4);
+            spoil_spaces(random, board, times);
+        }
+    }
+}
+
+/// An alias that no board may have, some of them with low bits that alone would do.
+fn bad_alias(random: &mut Random, alias: u16) -> u16 {
+    if random.once_in(2) {
+        random.pick(&[0, 0x1000, 0x1001, 0xFFFF, 0x1000 | alias])
+    } else {
+        0x1000 + random.below(0xF000) as u16
+    }
+}
+
+/// A number of bytes that no store may have, mostly the first.
+fn excess_store(random: &mut Random) -> usize {
+    if random.once_in(16) {
+        random.pick(&[LARGEST_STORE + 2, 70_000, 2 * LARGEST_STORE])
+    } else {
+        LARGEST_STORE + 1
+    }
+}
+
+/// Breaks two, three or all four of the limits, so that it shows which of them decides; often with
+/// bad spaces too.
+fn break_limits(random: &mut Random, board: &mut Board) {
+    // A bit for each limit, in the order of their numbers.
+    let limits = random.pick(&[3, 5, 6, 7, 9, 10, 11, 12, 13, 14, 15]);
+    if limits & 2 != 0 {
+        board.memory_len = excess_store(random);
+    }
+    if limits & 4 != 0 {
+        board.flash_len = excess_store(random);
+    }
+    if limits & 8 != 0 {
+        board.alias = bad_alias(random, board.alias);
+    }
+    if random.once_in(2) {
+        spoil_spaces(random, board, 1);
+    }
+    if limits & 1 != 0 {
+        crowd_table(random, board);
+    }
+}
+
+/// Puts more spaces behind those of a board than it may have; good ones but for their number, or
+/// anything.
+fn crowd_table(random: &mut Random, board: &mut Board) {
+    if random.once_in(2) {
+        let mut spaces = board.spaces.clone();
+        fill_up(random, board, &mut spaces, MOST_SPACES + 1);
+        board.set_table(table_of(random, &spaces));
+    } else {
+        let mut table = core::mem::take(&mut board.table);
+        let length = SPACE_SIZE * excess(random) + random.below(SPACE_SIZE);
+        let more = random.bytes(length.saturating_sub(table.len()));
+        table.extend(more);
+        board.set_table(table);
+    }
+}
+
+/// Puts good spaces behind these until there are so many; any, where no space can be good.
+fn fill_up(random: &mut Random, board: &Board, spaces: &mut Vec<Space>, count: usize) {
+    while spaces.len() < count {
+        let space = if board.flash_len + board.memory_len == 0 {
+            any_space(random)
+        } else {
+            good_space(random, spaces, board.flash_len, board.memory_len)
+        };
+        spaces.push(space);
     }
 }
 
 /// Spoils the table as bytes: too many spaces, one byte other than it was, an end that is cut off
 /// or put on, or nothing but random bytes.
 fn spoil_table(random: &mut Random, board: &mut Board) {
+    let which = random.below(6);
+    if which < 2 {
+        crowd_table(random, board);
+        return;
+    }
     let mut table = core::mem::take(&mut board.table);
-    match random.below(6) {
-        0 | 1 => {
-            let length = SPACE_SIZE * excess(random) + random.below(SPACE_SIZE);
-            let more = random.bytes(length.saturating_sub(table.len()));
-            table.extend(more);
-        }
+    match which {
         2 if !table.is_empty() => {
             let index = random.below(table.len());
             table[index] = random.byte();
@@ -255,8 +328,21 @@ fn spoil_table(random: &mut Random, board: &mut Board) {
     board.set_table(table);
 }
 
+/// Spoils spaces so many times, at any position; often of a board with as many as there may be, so
+/// that the last position is among them.
+fn spoil_spaces(random: &mut Random, board: &mut Board, times: usize) {
+    let mut spaces = board.spaces.clone();
+    if random.once_in(4) {
+        fill_up(random, board, &mut spaces, MOST_SPACES);
+    }
+    for _ in 0..times {
+        spoil_space(random, board, &mut spaces);
+    }
+    board.set_table(table_of(random, &spaces));
+}
+
 /// Spoils one of the spaces.
-fn spoil_spaces(random: &mut Random, board: &Board, spaces: &mut Vec<Space>) {
+fn spoil_space(random: &mut Random, board: &Board, spaces: &mut Vec<Space>) {
     if spaces.is_empty() {
         spaces.push(any_space(random));
         return;
@@ -301,7 +387,7 @@ fn spoil_spaces(random: &mut Random, board: &Board, spaces: &mut Vec<Space>) {
             let mut twin = *space;
             twin.number = spaces[random.below(spaces.len())].number;
             if spaces.len() < MOST_SPACES {
-                spaces.push(twin);
+                spaces.insert(random.between(0, spaces.len()), twin);
             } else {
                 spaces[index] = twin;
             }

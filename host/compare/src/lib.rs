@@ -3,6 +3,7 @@
 
 pub mod answer;
 pub mod demonstration;
+pub mod faults;
 pub mod ffi;
 pub mod generate;
 pub mod guarded;

@@ -4,6 +4,7 @@
 use std::fmt::Write;
 
 use crate::answer::Answer;
+use crate::faults::{is_damaged, Faults, Wrong};
 use crate::ffi::{self, Lock, Places, Pool, FRAME_SIZE, PLACES, PLACE_BYTES, SENT_SIZE};
 use crate::generate::{damage_places, rewrite_places, spoil_board, Board, Incoming};
 use crate::guarded::Guarded;
@@ -135,6 +136,7 @@ impl Model {
 pub struct Setup {
     board: Board,
     table_kind: TableKind,
+    faults: Faults,
     library: Library,
     model: Model,
     before: Before,
@@ -198,6 +200,7 @@ impl Setup {
             },
             model,
             table_kind: TableKind::of(board.table()),
+            faults: Faults::of(&board),
             board,
         }
     }
@@ -216,6 +219,7 @@ impl Setup {
         }
         self.library.table.set(self.board.table());
         self.table_kind = TableKind::of(self.board.table());
+        self.faults = Faults::of(&self.board);
         if self.board.flash_len != self.model.flash.len() {
             self.model.flash.resize(self.board.flash_len, 0x5A);
             self.library.flash.set(&self.model.flash);
@@ -337,7 +341,7 @@ impl Setup {
         let Self {
             library, before, ..
         } = self;
-        if matches!(done.answer, Answer::House(_) | Answer::Ignored) || done.by == By::Whole {
+        if matches!(done.answer, Answer::House { .. } | Answer::Ignored) || done.by == By::Whole {
             same(
                 library.places.bytes() == before.places && library.pool.bytes() == before.pool,
                 "a refused call changed the reception state",
@@ -347,6 +351,7 @@ impl Setup {
         }
         compare_memory(done.answer, before, library)?;
         self.compare_untouched(done)?;
+        self.compare_refusal(done)?;
         self.count(done, tally)
     }
 
@@ -425,9 +430,30 @@ impl Setup {
         )
     }
 
+    /// Tests of the library alone that a board is refused by its first fault, with the position of
+    /// a space and of nothing else, and that one without a fault is not, whatever the model does.
+    fn compare_refusal(&self, done: &Done) -> Result<(), &'static str> {
+        let answer = done.answer.is_of_description().then_some(done.answer);
+        same(
+            answer == self.faults.refusal(),
+            "the board has another first fault than the answer",
+        )
+    }
+
+    /// What was wrong in a call. The one for a whole datagram is lent no reception state.
+    fn wrong(&self, done: &Done) -> Wrong {
+        Wrong {
+            faults: self.faults,
+            short: done.reply.len() < 72,
+            damaged: done.by == By::Frames && is_damaged(&self.before.places),
+        }
+    }
+
     /// Counts what was reached.
     fn count(&self, done: &Done, tally: &mut Tally) -> Result<(), &'static str> {
-        if !matches!(done.answer, Answer::House(_)) {
+        if let Answer::House { number, position } = done.answer {
+            tally.refused(done.by, number, position, &self.wrong(done));
+        } else {
             tally.table(done.by, self.table_kind);
         }
         if done.joined && done.answer.is_of_datagram() {
@@ -435,9 +461,6 @@ impl Setup {
         }
         if done.by == By::Frames {
             tally.sent(done.count);
-        }
-        if self.board.spaces().len() > ffi::MOST_SPACES {
-            tally.count_by(done.by, Case::TableTooLong);
         }
         same(
             tally.answer(
@@ -483,8 +506,9 @@ impl Setup {
                 ),
             );
         }
-        line("library: answer", &format!("{:X?}", done.answer));
-        line("model:   answer", &format!("{:X?}", done.model_answer));
+        line("faults", &format!("{:?}", self.faults));
+        line("library: answer", &in_words(done.answer));
+        line("model:   answer", &in_words(done.model_answer));
         if done.by == By::Frames {
             line("room before", &hex(done.room));
             line("library: count", &done.count.to_string());
@@ -619,6 +643,15 @@ fn compare_places(
 /// The bytes of the pool for a place.
 fn pool_of(pool: &Pool, index: usize) -> &[u8] {
     &pool[PLACE_BYTES * index..][..PLACE_BYTES]
+}
+
+/// An answer for a report: codes in hexadecimal digits, house numbers and positions in decimal
+/// ones.
+fn in_words(answer: Answer) -> String {
+    match answer {
+        Answer::House { .. } => format!("{answer:?}"),
+        _ => format!("{answer:X?}"),
+    }
 }
 
 /// Bytes as digits.

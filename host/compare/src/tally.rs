@@ -2,6 +2,8 @@
 //! nothing about it, so that a count of zero is a failure.
 
 use crate::answer::Answer;
+use crate::faults::{limit_number, Faults, Wrong, LIMITS};
+use crate::ffi::MOST_SPACES;
 use crate::generate::COMMANDS;
 use crate::layout::TableKind;
 
@@ -30,8 +32,14 @@ enum Reach {
 }
 
 cases! {
-    /// B1.
-    B1 = "B1 refused", Both;
+    /// B11.
+    B11 = "B11 refused", Both;
+    /// B12.
+    B12 = "B12 refused", Both;
+    /// B13.
+    B13 = "B13 refused", Both;
+    /// B14.
+    B14 = "B14 refused", Both;
     /// B2.
     B2 = "B2 refused", Both;
     /// B3.
@@ -44,6 +52,56 @@ cases! {
     B6 = "B6 refused", Both;
     /// B7.
     B7 = "B7 refused", Frames;
+    /// B2 of the first space.
+    B2First = "B2 at position 0", Both;
+    /// B3 of the first space.
+    B3First = "B3 at position 0", Both;
+    /// B4 of the first space.
+    B4First = "B4 at position 0", Both;
+    /// B5 of the second space; the first has none, since no space is earlier.
+    B5Second = "B5 at position 1", Both;
+    /// B2 with a good space before it, and with a space behind it.
+    B2Middle = "B2 at 1 to 14, a space behind it", Both;
+    /// B3 with a good space before it, and with a space behind it.
+    B3Middle = "B3 at 1 to 14, a space behind it", Both;
+    /// B4 with a good space before it, and with a space behind it.
+    B4Middle = "B4 at 1 to 14, a space behind it", Both;
+    /// B5 with good spaces before it, and with a space behind it.
+    B5Middle = "B5 at 2 to 14, a space behind it", Both;
+    /// B2 of the last space that there may be.
+    B2Last = "B2 at position 15", Both;
+    /// B3 of the last space that there may be.
+    B3Last = "B3 at position 15", Both;
+    /// B4 of the last space that there may be.
+    B4Last = "B4 at position 15", Both;
+    /// B5 of the last space that there may be.
+    B5Last = "B5 at position 15", Both;
+    /// Several bad spaces, of which the first is the refused one.
+    Several = "bad spaces behind the refused one", Both;
+    /// Several bad spaces, and a later one with a lower number than the refused one.
+    SeveralLower = "a later bad space, lower number", Both;
+    /// Several bad spaces, and a later one with a higher number than the refused one.
+    SeveralHigher = "a later bad space, higher number", Both;
+    /// Too many spaces, and a bad one among the first sixteen.
+    B11AndSpace = "B11, with a bad space", Both;
+    /// Memory too large, and a bad space.
+    B12AndSpace = "B12, with a bad space", Both;
+    /// Flash too large, and a bad space.
+    B13AndSpace = "B13, with a bad space", Both;
+    /// A bad alias, and a bad space.
+    B14AndSpace = "B14, with a bad space", Both;
+    /// A broken limit, and a short reply buffer.
+    LimitAndShort = "limit, with a short buffer", Both;
+    /// A broken limit, and a damaged state.
+    LimitAndDamaged = "limit, with a damaged state", Frames;
+    /// A refused space, and a short reply buffer.
+    SpaceAndShort = "space, with a short buffer", Both;
+    /// A refused space, and a damaged state.
+    SpaceAndDamaged = "space, with a damaged state", Frames;
+    /// A short reply buffer, and a damaged state.
+    ShortAndDamaged = "B6, with a damaged state", Frames;
+    /// Everything wrong at once.
+    Everything = "limit, space, buffer and state", Frames;
     /// Ignored.
     Ignored = "ignored", Frames;
     /// Joined and not answered.
@@ -114,8 +172,6 @@ cases! {
     TableBehind = "table, bytes behind the last space", Both;
     /// A table that is not refused, with 16 spaces.
     TableFull = "table, 16 spaces", Both;
-    /// A table with over 16 spaces.
-    TableTooLong = "table, over 16 spaces", Both;
     /// A place that was free with other bytes than zeros, opened.
     PlaceOpened = "place opened, over other bytes", Small;
     /// A place that was held with other bytes than the library writes, appended to.
@@ -201,10 +257,17 @@ pub enum By {
     Whole,
 }
 
+/// How many sets of limits there are, that of none among them.
+const SETS: usize = 1 << LIMITS;
+
 /// The counts.
 #[derive(Clone, Debug)]
 pub struct Tally {
     cases: [Vec<u64>; 2],
+    /// Of the refusals by a limit, by the set of all that are broken.
+    limits: [[u64; SETS]; 2],
+    /// Of the refused spaces, by their position.
+    positions: [[u64; MOST_SPACES]; 2],
     commands: [[u64; 256]; 2],
 }
 
@@ -212,6 +275,8 @@ impl Default for Tally {
     fn default() -> Self {
         Self {
             cases: [vec![0; Case::ALL.len()], vec![0; Case::ALL.len()]],
+            limits: [[0; SETS]; 2],
+            positions: [[0; MOST_SPACES]; 2],
             commands: [[0; 256]; 2],
         }
     }
@@ -221,11 +286,6 @@ impl Tally {
     /// Counts a case of the smaller calls.
     pub fn count(&mut self, case: Case) {
         self.cases[0][case as usize] += 1;
-    }
-
-    /// Counts a case of a call that came in one of two ways.
-    pub fn count_by(&mut self, by: By, case: Case) {
-        self.cases[by as usize][case as usize] += 1;
     }
 
     /// Counts what is to be seen of a table that is not refused.
@@ -241,6 +301,65 @@ impl Tally {
             (full, Case::TableFull),
         ] {
             self.cases[by as usize][case as usize] += u64::from(is);
+        }
+    }
+
+    /// Counts what is to be seen of a refusal by a house number: what was refused, and what else
+    /// was wrong and did not decide.
+    pub fn refused(&mut self, by: By, number: u8, position: Option<usize>, wrong: &Wrong) {
+        let by = by as usize;
+        let Wrong {
+            faults,
+            short,
+            damaged,
+        } = *wrong;
+        let (limit, space) = (number >= limit_number(0), position.is_some());
+        if limit {
+            self.broken_limit(by, number, &faults);
+        }
+        if let Some(position) = position {
+            self.refused_space(by, number, position, &faults);
+        }
+        let all = limit && faults.has_bad_space() && short && damaged;
+        for (is, case) in [
+            (limit && short, Case::LimitAndShort),
+            (limit && damaged, Case::LimitAndDamaged),
+            (space && short, Case::SpaceAndShort),
+            (space && damaged, Case::SpaceAndDamaged),
+            (number == 6 && damaged, Case::ShortAndDamaged),
+            (all, Case::Everything),
+        ] {
+            self.cases[by][case as usize] += u64::from(is);
+        }
+    }
+
+    /// Counts where a refused space stands, and which bad ones stand behind it.
+    fn refused_space(&mut self, by: usize, number: u8, position: usize, faults: &Faults) {
+        self.positions[by][position] += 1;
+        if let Some(case) = case_of_position(number, position, faults.count) {
+            self.cases[by][case as usize] += 1;
+        }
+        let later = || faults.spaces[position + 1..].iter().flatten();
+        for (is, case) in [
+            (later().count() != 0, Case::Several),
+            (later().any(|&other| other < number), Case::SeveralLower),
+            (later().any(|&other| other > number), Case::SeveralHigher),
+        ] {
+            self.cases[by][case as usize] += u64::from(is);
+        }
+    }
+
+    /// Counts which limits were broken with the one that decided, and whether a space was bad.
+    fn broken_limit(&mut self, by: usize, number: u8, faults: &Faults) {
+        self.limits[by][faults.broken()] += 1;
+        let bad = faults.has_bad_space();
+        for (is, case) in [
+            (number == 11, Case::B11AndSpace),
+            (number == 12, Case::B12AndSpace),
+            (number == 13, Case::B13AndSpace),
+            (number == 14, Case::B14AndSpace),
+        ] {
+            self.cases[by][case as usize] += u64::from(is && bad);
         }
     }
 
@@ -305,39 +424,74 @@ impl Tally {
         let mut all = true;
         println!("{:36} {:>12} {:>12}", "case", "frames", "whole");
         for &(case, name, reach) in Case::ALL {
-            let [frames, whole] = [0, 1].map(|by| self.cases[by][case as usize]);
-            let missing = frames == 0 || (reach == Reach::Both && whole == 0);
-            all &= !missing;
-            let mark = if missing { "  NEVER REACHED" } else { "" };
-            if reach == Reach::Both {
-                println!("{name:36} {frames:12} {whole:12}{mark}");
-            } else {
-                println!("{name:36} {frames:12} {:>12}{mark}", "-");
-            }
+            let counts = [0, 1].map(|by| self.cases[by][case as usize]);
+            all &= print_row(name, counts, reach);
+        }
+        for set in 1..SETS {
+            let counts = [0, 1].map(|by| self.limits[by][set]);
+            all &= print_row(&name_of_limits(set), counts, Reach::Both);
+        }
+        for position in 0..MOST_SPACES {
+            let counts = [0, 1].map(|by| self.positions[by][position]);
+            let name = format!("space refused, position {position}");
+            all &= print_row(&name, counts, Reach::Both);
         }
         for command in COMMANDS {
-            let [frames, whole] = [0, 1].map(|by| self.commands[by][usize::from(command)]);
-            let missing = frames == 0 || whole == 0;
-            all &= !missing;
-            let mark = if missing { "  NEVER REACHED" } else { "" };
+            let counts = [0, 1].map(|by| self.commands[by][usize::from(command)]);
             let name = format!("command 0x{command:02X}, received OK");
-            println!("{name:36} {frames:12} {whole:12}{mark}");
+            all &= print_row(&name, counts, Reach::Both);
         }
         all
     }
+}
+
+/// Prints the counts of a case; false where it was not reached as it has to be.
+fn print_row(name: &str, counts: [u64; 2], reach: Reach) -> bool {
+    let [frames, whole] = counts;
+    let missing = frames == 0 || (reach == Reach::Both && whole == 0);
+    let mark = if missing { "  NEVER REACHED" } else { "" };
+    if reach == Reach::Both {
+        println!("{name:36} {frames:12} {whole:12}{mark}");
+    } else {
+        println!("{name:36} {frames:12} {:>12}{mark}", "-");
+    }
+    !missing
+}
+
+/// The name of a set of broken limits.
+fn name_of_limits(set: usize) -> String {
+    let mut name = "limits broken:".to_owned();
+    for limit in (0..LIMITS).filter(|limit| set >> limit & 1 != 0) {
+        name += &format!(" B{}", limit_number(limit));
+    }
+    name
+}
+
+/// The case of a refused space, of so many; `None` for one that is the last of fewer than sixteen.
+fn case_of_position(number: u8, position: usize, count: usize) -> Option<Case> {
+    let behind = position + 1 < count;
+    Some(match (number, position) {
+        (2, 0) => Case::B2First,
+        (3, 0) => Case::B3First,
+        (4, 0) => Case::B4First,
+        (5, 1) => Case::B5Second,
+        (2, 15) => Case::B2Last,
+        (3, 15) => Case::B3Last,
+        (4, 15) => Case::B4Last,
+        (5, 15) => Case::B5Last,
+        (2, _) if behind => Case::B2Middle,
+        (3, _) if behind => Case::B3Middle,
+        (4, _) if behind => Case::B4Middle,
+        (5, _) if behind => Case::B5Middle,
+        _ => return None,
+    })
 }
 
 /// The case of an answer; `None` for one that document 01 does not know.
 fn case_of(answer: Answer, datagram: &[u8], lock: [u8; 6], reply: &[u8]) -> Option<Case> {
     let command = datagram.get(1).copied();
     Some(match answer {
-        Answer::House(1) => Case::B1,
-        Answer::House(2) => Case::B2,
-        Answer::House(3) => Case::B3,
-        Answer::House(4) => Case::B4,
-        Answer::House(5) => Case::B5,
-        Answer::House(6) => Case::B6,
-        Answer::House(7) => Case::B7,
+        Answer::House { number, .. } => case_of_house(number)?,
         Answer::Ignored => Case::Ignored,
         Answer::Nothing => Case::Nothing,
         Answer::TransportRefusal(0x2040) => Case::OutOfOrder,
@@ -394,6 +548,23 @@ fn case_of(answer: Answer, datagram: &[u8], lock: [u8; 6], reply: &[u8]) -> Opti
     })
 }
 
+/// The case of a house number; `None` for one that no call is refused by.
+const fn case_of_house(number: u8) -> Option<Case> {
+    Some(match number {
+        2 => Case::B2,
+        3 => Case::B3,
+        4 => Case::B4,
+        5 => Case::B5,
+        6 => Case::B6,
+        7 => Case::B7,
+        11 => Case::B11,
+        12 => Case::B12,
+        13 => Case::B13,
+        14 => Case::B14,
+        _ => return None,
+    })
+}
+
 fn masked_by_zero(datagram: &[u8]) -> bool {
     let head = match datagram.get(1) {
         Some(0x08) => 7,
@@ -402,4 +573,77 @@ fn masked_by_zero(datagram: &[u8]) -> bool {
     datagram
         .get(head..)
         .is_some_and(|pairs| pairs.iter().step_by(2).any(|&mask| mask == 0))
+}
+
+#[cfg(test)]
+mod tests {
+    use super::*;
+
+    /// Of five spaces, the second and the fourth bad.
+    const FAULTS: Faults = Faults {
+        limits: [false; LIMITS],
+        spaces: {
+            let mut spaces = [None; MOST_SPACES];
+            (spaces[1], spaces[3]) = (Some(4), Some(2));
+            spaces
+        },
+        count: 5,
+    };
+
+    const fn wrong(faults: Faults) -> Wrong {
+        Wrong {
+            faults,
+            short: true,
+            damaged: false,
+        }
+    }
+
+    /// The cases of which a refusal, by frames, counts one.
+    fn counted(number: u8, position: Option<usize>, wrong: &Wrong) -> (Vec<Case>, Tally) {
+        let mut tally = Tally::default();
+        tally.refused(By::Frames, number, position, wrong);
+        assert_eq!(tally.cases[By::Whole as usize], Tally::default().cases[0]);
+        let cases = Case::ALL.iter().map(|&(case, ..)| case);
+        let cases = cases.filter(|&case| tally.cases[0][case as usize] == 1);
+        (cases.collect(), tally)
+    }
+
+    #[test]
+    fn a_refused_space_is_counted_by_its_position() {
+        let (cases, tally) = counted(4, Some(1), &wrong(FAULTS));
+        let expected = [
+            Case::B4Middle,
+            Case::Several,
+            Case::SeveralLower,
+            Case::SpaceAndShort,
+        ];
+        assert_eq!(cases, expected);
+        assert_eq!(tally.positions[0][1], 1);
+        assert_eq!(tally.limits, Tally::default().limits);
+    }
+
+    #[test]
+    fn a_limit_is_counted_with_what_else_is_wrong() {
+        let limits = [false, true, false, true];
+        let mut wrong = wrong(Faults { limits, ..FAULTS });
+        let (cases, tally) = counted(12, None, &wrong);
+        assert_eq!(cases, [Case::B12AndSpace, Case::LimitAndShort]);
+        assert_eq!(tally.limits[0][0b1010], 1);
+        assert_eq!(tally.positions, Tally::default().positions);
+        assert_eq!(name_of_limits(0b1010), "limits broken: B12 B14");
+        wrong.damaged = true;
+        let (cases, _) = counted(12, None, &wrong);
+        assert!(cases.contains(&Case::Everything));
+    }
+
+    #[test]
+    fn first_middle_and_last() {
+        assert_eq!(case_of_position(2, 0, 1), Some(Case::B2First));
+        // The last of fewer than sixteen is neither in the middle nor the last that there may be.
+        assert_eq!(case_of_position(3, 14, 15), None);
+        assert_eq!(case_of_position(3, 14, 16), Some(Case::B3Middle));
+        assert_eq!(case_of_position(4, 15, 16), Some(Case::B4Last));
+        assert_eq!(case_of_position(5, 1, 16), Some(Case::B5Second));
+        assert_eq!(case_of_position(5, 2, 16), Some(Case::B5Middle));
+    }
 }

@@ -1,13 +1,14 @@
 //! Holds what document 01 says of the demonstration board, asked of the library through its C
-//! edge: the session, and the whole datagrams.
+//! edge: the session, and the whole datagrams; and what change request C-11 says of a board that is
+//! refused.
 
-use compare::demonstration::Demonstration;
-use compare::ffi::{self, Carry};
+use compare::demonstration::{Demonstration, ALIAS, FLASH, MEMORY_LEN, TABLE, WRITE_LENGTHS};
+use compare::ffi::{self, Carry, NO_POSITION, SPACE_SIZE};
 
 /// The reply to a whole datagram, or the code of its rejection.
 fn answer(board: &mut Demonstration, datagram: &[u8]) -> Vec<u8> {
     let numbers = board.datagram(datagram);
-    assert_eq!(numbers.frame_count, 0);
+    assert_eq!((numbers.frame_count, numbers.position), (0, NO_POSITION));
     match numbers.kind {
         4 => numbers.code.to_be_bytes().to_vec(),
         6 => board.reply()[..usize::from(numbers.reply_len)].to_vec(),
@@ -128,6 +129,7 @@ fn a_write_says_what_it_has_written() {
         let mut board = Demonstration::new();
         let numbers = board.datagram(&bytes(datagram));
         assert_eq!((numbers.kind, numbers.flags), (5, 0), "{datagram}");
+        assert_eq!(numbers.position, NO_POSITION, "{datagram}");
         assert_eq!(
             (numbers.changed_at, numbers.changed_len),
             (at, len),
@@ -149,8 +151,105 @@ fn update_complete_is_no_write() {
         assert_eq!((numbers.kind, numbers.flags), (7, 0));
         assert_eq!((numbers.changed_at, numbers.changed_len), (0, 0));
         assert_eq!(numbers.frame_count, frame_count);
+        assert_eq!(numbers.position, NO_POSITION);
     }
     assert_eq!(board.memory, [0; 48]);
+}
+
+/// The house number and the position that a board with this alias, table, flash and memory is
+/// refused by, in either call; the reply buffer has so many bytes.
+fn refused(
+    alias: u16,
+    table: &[u8],
+    [flash_len, memory_len]: [usize; 2],
+    reply_len: usize,
+) -> (u8, u8) {
+    let flash = vec![0; flash_len];
+    let (mut memory, mut reply, mut lock) = (vec![0; memory_len], vec![0; reply_len], [0; 6]);
+    let (mut pool, mut places) = ([0; ffi::POOL_BYTES], [0; ffi::PLACES_SIZE]);
+    let mut room = [0; ffi::SENT_SIZE];
+    let (header, done) = (0x1A22_B123, [0x20, 0xA8]);
+    let whole = ffi::handle_datagram(
+        alias,
+        WRITE_LENGTHS,
+        table,
+        &flash,
+        &mut memory,
+        &mut lock,
+        &done,
+        &mut reply,
+    );
+    let framed = ffi::handle_frame(
+        alias,
+        WRITE_LENGTHS,
+        table,
+        &flash,
+        &mut memory,
+        &mut lock,
+        &mut pool,
+        &mut places,
+        header,
+        &done,
+        &mut reply,
+        &mut room,
+    );
+    assert_eq!(whole, framed);
+    assert_eq!((whole.kind, whole.frame_count), (0, 0));
+    (whole.house, whole.position)
+}
+
+const STORES: [usize; 2] = [FLASH.len(), MEMORY_LEN];
+
+#[test]
+fn a_refused_space_has_its_position() {
+    // The index of a byte in the table and what it becomes, from the last space to the first: each
+    // stands before the one that decided until then.
+    let cases: [(usize, u8, (u8, u8)); 4] = [
+        (3 * SPACE_SIZE, 0xFE, (5, 3)),
+        (2 * SPACE_SIZE + 1, 0, (4, 2)),
+        (SPACE_SIZE + 8, 0x30, (3, 1)),
+        (4, 0x20, (2, 0)),
+    ];
+    let mut table = TABLE;
+    for (index, byte, expected) in cases {
+        table[index] = byte;
+        assert_eq!(refused(ALIAS, &table, STORES, 72), expected);
+        // A short buffer is tested later.
+        assert_eq!(refused(ALIAS, &table, STORES, 71), expected);
+    }
+    assert_eq!(refused(ALIAS, &TABLE, STORES, 71), (6, NO_POSITION));
+    // The position decides, not the number: B3 of the first space, B2 of the second.
+    (table[2], table[4], table[SPACE_SIZE + 4]) = (1, 0, 0x40);
+    assert_eq!(refused(ALIAS, &table, STORES, 72), (3, 0));
+    // Sixteen spaces, of which only the last is bad.
+    let mut full = TABLE[..SPACE_SIZE].repeat(16);
+    for position in 0..15 {
+        full[position * SPACE_SIZE] = position as u8;
+    }
+    for (number, expected) in [(14, 5), (0xFF, 4)] {
+        full[15 * SPACE_SIZE] = number;
+        assert_eq!(refused(ALIAS, &full, STORES, 72), (expected, 15));
+    }
+}
+
+#[test]
+fn a_broken_limit_has_its_number_and_no_position() {
+    let mut table = TABLE.to_vec();
+    for alias in [0, 4_096, 0xFFFF] {
+        assert_eq!(refused(alias, &table, STORES, 72), (14, NO_POSITION));
+    }
+    let large = 65_537;
+    let [flash, memory] = [[large, MEMORY_LEN], [FLASH.len(), large]];
+    assert_eq!(refused(ALIAS, &table, flash, 72), (13, NO_POSITION));
+    assert_eq!(refused(ALIAS, &table, memory, 72), (12, NO_POSITION));
+    // With a bad space and a short buffer, one limit after the other from the last to the first.
+    table[4] = 0x20;
+    assert_eq!(refused(0, &table, STORES, 71), (14, NO_POSITION));
+    assert_eq!(refused(0, &table, flash, 71), (13, NO_POSITION));
+    assert_eq!(refused(0, &table, [large; 2], 71), (12, NO_POSITION));
+    table.resize(17 * SPACE_SIZE, 0);
+    assert_eq!(refused(0, &table, [large; 2], 71), (11, NO_POSITION));
+    assert_eq!(refused(ALIAS, &table, STORES, 72), (11, NO_POSITION));
 }
 
 #[test]

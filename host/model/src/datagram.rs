@@ -59,7 +59,7 @@ const MOST_DATA: usize = 64;
 
 /// Handles a datagram that is handed over whole.
 ///
-/// B1 to B6 come first and change nothing.
+/// B11 to B14, then B2 to B6, come first and change nothing.
 pub fn handle_datagram(
     description: &Description,
     flash: &[u8],
@@ -81,7 +81,7 @@ pub(crate) fn check_reply_buffer(reply: &[u8]) -> Result<(), HouseNumber> {
     Ok(())
 }
 
-/// Handles a whole datagram after B1 to B6 have been checked.
+/// Handles a whole datagram after B11 to B14 and B2 to B6 have been checked.
 pub(crate) fn handle(
     description: &Description,
     flash: &[u8],

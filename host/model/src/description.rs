@@ -1,4 +1,5 @@
-//! Holds the board description, its check (B1 to B5) and the windows of its spaces.
+//! Holds the board description, its check (B11 to B14, then B2 to B5) and the windows of its
+//! spaces.
 
 use crate::HouseNumber;
 
@@ -29,11 +30,11 @@ pub struct Space {
 /// What the board is: its alias, its Write Lengths byte and its spaces in order.
 #[derive(Clone, Copy, Debug, PartialEq, Eq)]
 pub struct Description<'a> {
-    /// The board's own alias.
+    /// The board's own alias; one that is not 1–4,095 is refused with B14.
     pub alias: u16,
     /// The Write Lengths byte, sent as given.
     pub write_lengths: u8,
-    /// The spaces in order; more than 16 are refused with B1.
+    /// The spaces in order; more than 16 are refused with B11.
     pub spaces: &'a [Space],
 }
 
@@ -43,17 +44,22 @@ impl Space {
         self.highest as u64 - self.lowest as u64 + 1
     }
 
-    /// B2, B3 and B4 for this space.
-    fn check(&self, flash_len: usize, memory_len: usize) -> Result<(), HouseNumber> {
+    /// B2, B3 and B4 for this space, which is at this position of the description.
+    fn check(
+        &self,
+        position: usize,
+        flash_len: usize,
+        memory_len: usize,
+    ) -> Result<(), HouseNumber> {
         if self.lowest > self.highest {
-            return Err(HouseNumber::B2);
+            return Err(HouseNumber::B2(position));
         }
         let store_len = if self.in_flash { flash_len } else { memory_len };
         if u64::from(self.offset) + self.size() > store_len as u64 {
-            return Err(HouseNumber::B3);
+            return Err(HouseNumber::B3(position));
         }
         if !self.read_only && (self.in_flash || self.number == 0xFF) {
-            return Err(HouseNumber::B4);
+            return Err(HouseNumber::B4(position));
         }
         Ok(())
     }
@@ -106,27 +112,42 @@ impl Description<'_> {
     }
 }
 
-/// The check that comes first at each call: B1, then space by space B2 to B5.
+/// The limits, each with its own number: B11, B12, B13 and B14, in this order.
+fn check_limits(
+    description: &Description,
+    flash_len: usize,
+    memory_len: usize,
+) -> Result<(), HouseNumber> {
+    if description.spaces.len() > MOST_SPACES {
+        return Err(HouseNumber::B11);
+    }
+    if memory_len > LARGEST_STORE {
+        return Err(HouseNumber::B12);
+    }
+    if flash_len > LARGEST_STORE {
+        return Err(HouseNumber::B13);
+    }
+    if !(1..=LAST_ALIAS).contains(&description.alias) {
+        return Err(HouseNumber::B14);
+    }
+    Ok(())
+}
+
+/// The check that comes first at each call: B11 to B14, then space by space B2 to B5.
 pub fn check_description(
     description: &Description,
     flash_len: usize,
     memory_len: usize,
 ) -> Result<(), HouseNumber> {
-    if description.spaces.len() > MOST_SPACES
-        || memory_len > LARGEST_STORE
-        || flash_len > LARGEST_STORE
-        || !(1..=LAST_ALIAS).contains(&description.alias)
-    {
-        return Err(HouseNumber::B1);
-    }
+    check_limits(description, flash_len, memory_len)?;
     // One bit for each of the 256 numbers an earlier space may have used.
     let mut used = [0u64; 4];
-    for space in description.spaces {
-        space.check(flash_len, memory_len)?;
+    for (position, space) in description.spaces.iter().enumerate() {
+        space.check(position, flash_len, memory_len)?;
         let word = &mut used[usize::from(space.number >> 6)];
         let bit = 1u64 << (space.number & 0x3F);
         if *word & bit != 0 {
-            return Err(HouseNumber::B5);
+            return Err(HouseNumber::B5(position));
         }
         *word |= bit;
     }

@@ -51,7 +51,8 @@ fn recognise(alias: u16, header: u32, data: &[u8]) -> Option<(Kind, u16)> {
 
 /// Handles one frame.
 ///
-/// B1 to B7 come first, in order and also for a frame that would be ignored; they change nothing.
+/// B11 to B14, then B2 to B7, come first, in this order and also for a frame that would be ignored;
+/// they change nothing.
 #[expect(
     clippy::too_many_arguments,
     reason = "everything the board has is lent, each thing by itself"

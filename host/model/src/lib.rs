@@ -1,5 +1,5 @@
 //! Holds the parts of the library: the board's side of the OpenLCB memory configuration protocol
-//! as document 01 fixes it.
+//! as document 01 fixes it, with change request C-11 of document 02.
 //!
 //! Document 01 decides; source documents 000 (Memory Configuration), 002 (Message Network) and
 //! 004 (Datagram Transport) stand behind it. Nothing here allocates while a frame is handled:

@@ -1,11 +1,62 @@
-//! Holds the tests of the refusals that go back to the caller: B1 to B7, their order, and that
-//! nothing changes.
+//! Holds the tests of the refusals that go back to the caller: B11 to B14 and B2 to B7, their
+//! order, the positions that B2 to B5 bring, and that nothing changes.
 
 mod common;
 
 use common::{entry, first, hex, in_flash, read_only, single, space, Bench};
 use model::{check_description, Answer, Description, FrameAnswer, HouseNumber, Reception, Space};
-use HouseNumber::{B1, B2, B3, B4, B5, B6, B7};
+use HouseNumber::{B11, B12, B13, B14, B2, B3, B4, B5, B6, B7, B9};
+
+/// A limit's house number, and how a board comes to break it.
+type Limit = (HouseNumber, fn(&mut Bench));
+
+/// A fault's house number for a position, and how the space there comes to have the fault.
+type Fault = (fn(usize) -> HouseNumber, fn(&mut [Space], usize));
+
+/// The four limits in the order in which they are tested.
+const LIMITS: [Limit; 4] = [
+    (B11, |board| board.spaces = sound_spaces(17)),
+    (B12, |board| board.memory.resize(65_537, 0)),
+    (B13, |board| board.flash.resize(65_537, 0)),
+    (B14, |board| board.alias = 0),
+];
+
+/// The four faults of a space in the order in which they are tested. None undoes another, however
+/// large memory and flash are. The first space cannot have the last fault: no space is earlier.
+const FAULTS: [Fault; 4] = [
+    (B2, |spaces, at| spaces[at].lowest = 1),
+    (B3, |spaces, at| spaces[at].offset = u32::MAX),
+    (B4, |spaces, at| spaces[at].in_flash = true),
+    (B5, |spaces, at| spaces[at].number = spaces[0].number),
+];
+
+/// Spaces of one byte each, with unlike numbers.
+fn sound_spaces(count: u8) -> Vec<Space> {
+    (0..count).map(|at| space(at * 15, 0, 0, 0)).collect()
+}
+
+/// Gives the space at a position the faults whose bits are set, and gives the house number that
+/// is due if every earlier space is sound.
+fn spoil(spaces: &mut [Space], at: usize, faults: usize) -> Option<HouseNumber> {
+    let mut due = None;
+    for (bit, (house_number, fault)) in FAULTS.iter().enumerate() {
+        if faults >> bit & 1 == 1 && (bit < 3 || at > 0) {
+            fault(spaces, at);
+            due = due.or(Some(house_number(at)));
+        }
+    }
+    due
+}
+
+/// The check of the description alone.
+fn checked(bench: &Bench) -> Result<(), HouseNumber> {
+    let description = Description {
+        alias: bench.alias,
+        write_lengths: bench.write_lengths,
+        spaces: &bench.spaces,
+    };
+    check_description(&description, bench.flash.len(), bench.memory.len())
+}
 
 /// Puts a write, a lock, a frame and an ignored frame to the board; all are refused alike and
 /// nothing changes. The whole-datagram calls know nothing of B7.
@@ -31,17 +82,13 @@ fn assert_refused(bench: &Bench, house_number: HouseNumber) {
 }
 
 fn refused(spaces: &[Space], house_number: HouseNumber) {
-    let bench = Bench::with_spaces(spaces);
-    let description = Description {
-        alias: bench.alias,
-        write_lengths: 0,
-        spaces,
-    };
-    assert_eq!(
-        check_description(&description, bench.flash.len(), bench.memory.len()),
-        Err(house_number)
-    );
-    assert_refused(&bench, house_number);
+    assert_description_refused(&Bench::with_spaces(spaces), house_number);
+}
+
+/// The same for a board whose description alone is enough for the refusal.
+fn assert_description_refused(bench: &Bench, house_number: HouseNumber) {
+    assert_eq!(checked(bench), Err(house_number));
+    assert_refused(bench, house_number);
 }
 
 fn accepted(spaces: &[Space]) {
@@ -52,68 +99,140 @@ fn accepted(spaces: &[Space]) {
 }
 
 #[test]
-fn b1_spaces() {
-    let spaces: Vec<Space> = (0..17).map(|number| space(number, 0, 0, 0)).collect();
-    accepted(&spaces[..0]);
-    accepted(&spaces[..16]);
-    refused(&spaces, B1);
+fn b11_spaces() {
+    accepted(&[]);
+    accepted(&sound_spaces(16));
+    refused(&sound_spaces(17), B11);
+    // Counts whose low eight or sixteen bits are a count in range.
+    for count in [256, 272, 65_536, 65_552] {
+        let mut board = Bench::demo();
+        board.spaces = vec![space(1, 0, 0, 0); count];
+        assert_eq!(checked(&board), Err(B11), "{count}");
+    }
 }
 
 #[test]
-fn b1_alias() {
+fn b12_memory() {
+    let mut bench = Bench::demo();
+    bench.memory = vec![0; 65_536];
+    assert_eq!(bench.datagram(&hex("20A8")), Ok(Answer::UpdateComplete));
+    bench.memory.push(0);
+    assert_description_refused(&bench, B12);
+    bench.memory.resize(131_072, 0);
+    assert_description_refused(&bench, B12);
+}
+
+#[test]
+fn b13_flash() {
+    let mut bench = Bench::demo();
+    bench.flash = vec![0; 65_536];
+    assert_eq!(bench.datagram(&hex("20A8")), Ok(Answer::UpdateComplete));
+    bench.flash.push(0);
+    assert_description_refused(&bench, B13);
+    bench.flash.resize(131_072, 0);
+    assert_description_refused(&bench, B13);
+}
+
+#[test]
+fn b14_alias() {
     for alias in [1, 2, 0x22B, 4_094, 4_095] {
         let mut bench = Bench::demo();
         bench.alias = alias;
         assert_eq!(bench.datagram(&hex("20A8")), Ok(Answer::UpdateComplete));
     }
-    for alias in [0, 4_096, 65_535] {
+    for alias in [0, 4_096, 0x122B, 65_535] {
         let mut bench = Bench::demo();
         bench.alias = alias;
-        assert_refused(&bench, B1);
+        assert_description_refused(&bench, B14);
     }
 }
 
 #[test]
-fn b1_memory_and_flash() {
-    let mut bench = Bench::demo();
-    bench.memory = vec![0; 65_536];
-    bench.flash = vec![0; 65_536];
-    assert_eq!(bench.datagram(&hex("20A8")), Ok(Answer::UpdateComplete));
-    bench.memory.push(0);
-    assert_refused(&bench, B1);
-    bench.memory.pop();
-    bench.flash.push(0);
-    assert_refused(&bench, B1);
+fn all_limits_reached_and_none_broken() {
+    for alias in [1, 4_095] {
+        let mut bench = Bench::with_spaces(&sound_spaces(16));
+        bench.memory.resize(65_536, 0);
+        bench.flash.resize(65_536, 0);
+        bench.alias = alias;
+        assert_eq!(checked(&bench), Ok(()));
+        assert_eq!(bench.datagram(&hex("20A8")), Ok(Answer::UpdateComplete));
+    }
+}
+
+/// A board that breaks the limits whose bits are set, and the first of them.
+fn limits_broken(broken: usize) -> (Bench, Option<HouseNumber>) {
+    let mut board = Bench::with_spaces(&sound_spaces(16));
+    let mut due = None;
+    for (bit, (house_number, break_limit)) in LIMITS.iter().enumerate() {
+        if broken >> bit & 1 == 1 {
+            break_limit(&mut board);
+            due = due.or(Some(*house_number));
+        }
+    }
+    (board, due)
+}
+
+#[test]
+fn the_first_limit_broken_is_given() {
+    for broken in 1..16 {
+        let (board, due) = limits_broken(broken);
+        assert_description_refused(&board, due.unwrap());
+    }
+}
+
+#[test]
+fn limits_come_before_everything_else() {
+    let bytes = [7; 72];
+    for broken in 0..16 {
+        let (sound, limit) = limits_broken(broken);
+        for faults in 0..16 {
+            for at in [0, 7, 15] {
+                let mut board = sound.clone();
+                let fault = spoil(&mut board.spaces, at, faults);
+                assert_eq!(checked(&board).err(), limit.or(fault));
+            }
+        }
+        // Every space is bad, the reply buffer is short and the reception state is damaged.
+        let mut board = sound;
+        for at in 0..board.spaces.len() {
+            spoil(&mut board.spaces, at, 1 << (at % 4));
+        }
+        board.reply.truncate(71);
+        board.reception = Reception::from_unfinished(&[entry(1, 73, &bytes)]).unwrap();
+        assert_description_refused(&board, limit.unwrap_or(B2(0)));
+    }
 }
 
 #[test]
 fn b2_lowest_above_highest() {
-    refused(&[space(1, 1, 0, 0)], B2);
-    refused(&[space(1, u32::MAX, 0, u32::MAX)], B2);
-    refused(&[space(1, 0, 0, 0), space(1, 6, 5, 0)], B2);
+    refused(&[space(1, 1, 0, 0)], B2(0));
+    refused(&[space(1, u32::MAX, 0, u32::MAX)], B2(0));
+    refused(&[space(1, 0, 0, 0), space(1, 6, 5, 0)], B2(1));
     accepted(&[space(1, 5, 5, 0)]);
 }
 
 #[test]
 fn b3_windows() {
     accepted(&[space(1, 0, 47, 0)]);
-    refused(&[space(1, 0, 48, 0)], B3);
+    refused(&[space(1, 0, 48, 0)], B3(0));
     accepted(&[space(1, 100, 146, 1)]);
-    refused(&[space(1, 100, 147, 1)], B3);
-    refused(&[space(1, 0, 0, 48)], B3);
-    refused(&[space(1, 0, 0, u32::MAX)], B3);
-    refused(&[space(1, 0, u32::MAX, 0)], B3);
-    refused(&[space(1, 0, u32::MAX, u32::MAX)], B3);
-    refused(&[space(1, 1, u32::MAX, 1)], B3);
+    refused(&[space(1, 100, 147, 1)], B3(0));
+    refused(&[space(1, 0, 0, 48)], B3(0));
+    refused(&[space(1, 0, 0, u32::MAX)], B3(0));
+    refused(&[space(1, 0, u32::MAX, 0)], B3(0));
+    refused(&[space(1, 0, u32::MAX, u32::MAX)], B3(0));
+    refused(&[space(1, 1, u32::MAX, 1)], B3(0));
     accepted(&[in_flash(space(1, 0, 15, 0))]);
-    refused(&[in_flash(space(1, 0, 16, 0))], B3);
-    refused(&[in_flash(space(1, 0, 0, 16))], B3);
+    refused(&[in_flash(space(1, 0, 16, 0))], B3(0));
+    refused(&[in_flash(space(1, 0, 0, 16))], B3(0));
+    // Memory and flash differ in size, and each space is held to its own.
+    refused(&[space(1, 0, 16, 0), in_flash(space(2, 0, 16, 0))], B3(1));
     let mut bench = Bench::with_spaces(&[space(1, 0, 0, 0)]);
     bench.memory.clear();
-    assert_refused(&bench, B3);
+    assert_refused(&bench, B3(0));
     let mut bench = Bench::with_spaces(&[in_flash(space(1, 0, 0, 0))]);
     bench.flash.clear();
-    assert_refused(&bench, B3);
+    assert_refused(&bench, B3(0));
 }
 
 #[test]
@@ -122,8 +241,9 @@ fn b4_access() {
         read_only: false,
         ..in_flash(space(1, 0, 0, 0))
     };
-    refused(&[writable_in_flash], B4);
-    refused(&[space(0xFF, 0, 0, 0)], B4);
+    refused(&[writable_in_flash], B4(0));
+    refused(&[space(0xFF, 0, 0, 0)], B4(0));
+    refused(&[space(1, 0, 0, 0), space(0xFF, 0, 0, 0)], B4(1));
     accepted(&[read_only(space(0xFF, 0, 0, 0))]);
     accepted(&[
         read_only(space(0xFD, 0, 0, 0)),
@@ -133,20 +253,20 @@ fn b4_access() {
 
 #[test]
 fn b5_numbers() {
-    refused(&[space(1, 0, 0, 0), space(1, 0, 0, 0)], B5);
+    refused(&[space(1, 0, 0, 0), space(1, 0, 0, 0)], B5(1));
     refused(
         &[space(0, 0, 0, 0), space(64, 0, 0, 0), space(0, 0, 0, 0)],
-        B5,
+        B5(2),
     );
     accepted(&[0, 63, 64, 127, 128, 191, 192, 254].map(|number| space(number, 0, 0, 0)));
     let mut all: Vec<Space> = (0..16).map(|number| space(number * 16, 0, 0, 0)).collect();
     accepted(&all);
     all[15].number = 0;
-    refused(&all, B5);
+    refused(&all, B5(15));
 }
 
 #[test]
-fn the_order_of_b1_to_b5() {
+fn the_order_of_b2_to_b5() {
     // Each space goes through all its checks before the next.
     let b2 = space(9, 1, 0, 999);
     let b3 = Space {
@@ -155,16 +275,89 @@ fn the_order_of_b1_to_b5() {
     };
     let b4 = space(0xFF, 0, 0, 0);
     let sound = space(9, 0, 0, 0);
-    refused(&[sound, sound, b2], B5);
-    refused(&[sound, b2, sound], B2);
-    refused(&[b4, b2], B4);
-    refused(&[b3, b2], B3);
-    refused(&[sound, b3], B3);
-    refused(&[read_only(b4), b4], B4);
-    refused(&[b2, b3, b4], B2);
-    let mut bench = Bench::with_spaces(&[b2]);
-    bench.alias = 0;
-    assert_refused(&bench, B1);
+    refused(&[sound, sound, b2], B5(1));
+    refused(&[sound, b2, sound], B2(1));
+    refused(&[b4, b2], B4(0));
+    refused(&[b3, b2], B3(0));
+    refused(&[sound, b3], B3(1));
+    refused(&[read_only(b4), b4], B4(1));
+    refused(&[b2, b3, b4], B2(0));
+}
+
+#[test]
+fn positions_of_the_refused_space() {
+    // A description of one space, one of 16 and all between, bad at each position in turn.
+    for count in 1..=16 {
+        for at in 0..usize::from(count) {
+            for (bit, (house_number, _)) in FAULTS.iter().enumerate() {
+                let mut board = Bench::with_spaces(&sound_spaces(count));
+                let due = spoil(&mut board.spaces, at, 1 << bit);
+                assert_eq!(checked(&board).err(), due);
+                // The first space has no earlier one, so B5 begins at position 1.
+                let b5_of_the_first = bit == 3 && at == 0;
+                assert_eq!(due, (!b5_of_the_first).then(|| house_number(at)));
+            }
+        }
+    }
+}
+
+#[test]
+fn positions_come_back_from_every_call() {
+    for at in [0, 1, 7, 14, 15] {
+        for faults in [1, 2, 4, 8] {
+            let mut spaces = sound_spaces(16);
+            match spoil(&mut spaces, at, faults) {
+                Some(due) => refused(&spaces, due),
+                None => accepted(&spaces),
+            }
+        }
+    }
+}
+
+#[test]
+fn the_first_bad_space_decides() {
+    // Every set of faults in one space together with every set of faults in a later one.
+    for (earlier, later) in (0..16).flat_map(|later| (0..later).map(move |at| (at, later))) {
+        for (faults, later_faults) in (0..16).flat_map(|one| (0..16).map(move |two| (one, two))) {
+            let mut board = Bench::with_spaces(&sound_spaces(16));
+            let due = spoil(&mut board.spaces, earlier, faults);
+            let later_due = spoil(&mut board.spaces, later, later_faults);
+            assert_eq!(checked(&board).err(), due.or(later_due));
+        }
+    }
+    // From a position on every space is bad, the faults taking turns.
+    for start in 0..16 {
+        for turn in 0..4 {
+            let mut spaces = sound_spaces(16);
+            let due = (start..16)
+                .map(|at| spoil(&mut spaces, at, 1 << ((at + turn) % 4)))
+                .fold(None, Option::or);
+            refused(&spaces, due.expect("a bad space"));
+        }
+    }
+    // The fault that is tested last decides here, because its space comes first.
+    let mut spaces = sound_spaces(16);
+    spoil(&mut spaces, 15, 0b0001);
+    spoil(&mut spaces, 14, 0b1000);
+    refused(&spaces, B5(14));
+}
+
+#[test]
+fn b5_gives_the_position_of_the_later_space() {
+    for later in 1..16 {
+        for earlier in 0..later {
+            let mut board = Bench::with_spaces(&sound_spaces(16));
+            board.spaces[later].number = board.spaces[earlier].number;
+            assert_eq!(checked(&board), Err(B5(later)));
+        }
+    }
+    // Of several pairs it is the one that is complete first, of three alike the second.
+    let numbered =
+        |numbers: &[u8]| -> Vec<Space> { numbers.iter().map(|&it| space(it, 0, 0, 0)).collect() };
+    refused(&numbered(&[7, 8, 8, 7]), B5(2));
+    refused(&numbered(&[7, 8, 7, 8]), B5(2));
+    refused(&numbered(&[7, 8, 9, 7, 7]), B5(3));
+    refused(&numbered(&[7; 16]), B5(1));
 }
 
 #[test]
@@ -173,8 +366,10 @@ fn b6_reply_buffer() {
         let mut bench = Bench::demo();
         bench.reply.truncate(length);
         assert_refused(&bench, B6);
+        bench.spaces[3].highest = 0x110;
+        assert_refused(&bench, B3(3));
         bench.spaces[0].highest = 48;
-        assert_refused(&bench, B3);
+        assert_refused(&bench, B3(0));
     }
     let mut bench = Bench::demo();
     bench.reply.truncate(72);
@@ -214,6 +409,8 @@ fn b7_reception() {
         let mut short = bench.clone();
         short.reply.truncate(71);
         assert_refused(&short, B6);
+        short.spaces[1].lowest = 0x30;
+        assert_refused(&short, B2(1));
     }
 }
 
@@ -266,6 +463,39 @@ fn entries_come_back_as_they_went_in() {
 
 #[test]
 fn the_numbers_of_the_house_numbers() {
-    let names = [B1, B2, B3, B4, B5, B6, B7, HouseNumber::B9].map(|number| number.to_string());
-    assert_eq!(names, ["B1", "B2", "B3", "B4", "B5", "B6", "B7", "B9"]);
+    let all = [
+        (B2(0), 2, Some(0), "B2 of space 0"),
+        (B2(1), 2, Some(1), "B2 of space 1"),
+        (B3(2), 3, Some(2), "B3 of space 2"),
+        (B4(9), 4, Some(9), "B4 of space 9"),
+        (B5(15), 5, Some(15), "B5 of space 15"),
+        (B6, 6, None, "B6"),
+        (B7, 7, None, "B7"),
+        (B9, 9, None, "B9"),
+        (B11, 11, None, "B11"),
+        (B12, 12, None, "B12"),
+        (B13, 13, None, "B13"),
+        (B14, 14, None, "B14"),
+    ];
+    for (house_number, number, position, name) in all {
+        assert_eq!(house_number.number(), number);
+        assert_eq!(house_number.position(), position);
+        assert_eq!(house_number.to_string(), name);
+    }
+    // The list is in the order of the numbers and, for one number, of the positions.
+    assert!(all.windows(2).all(|pair| pair[0].0 < pair[1].0));
+}
+
+#[test]
+fn the_position_is_part_of_the_house_number() {
+    for (house_number, _) in FAULTS {
+        for position in 0..16 {
+            assert_eq!(house_number(position).position(), Some(position));
+            assert_eq!(house_number(position).number(), house_number(0).number());
+            assert_ne!(house_number(position), house_number(position + 1));
+        }
+    }
+    for (house_number, _) in LIMITS {
+        assert_eq!(house_number.position(), None);
+    }
 }

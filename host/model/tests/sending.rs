@@ -82,7 +82,13 @@ fn nothing_is_sent_for_a_house_number_an_ignored_and_a_joined_frame() {
         assert!(board.frame(single(1), &read).is_err());
         assert_eq!(sent(&mut board, single(1), &read), []);
     }
-    for number in [HouseNumber::B1, HouseNumber::B7] {
+    for number in [
+        HouseNumber::B11,
+        HouseNumber::B14,
+        HouseNumber::B2(0),
+        HouseNumber::B5(15),
+        HouseNumber::B7,
+    ] {
         let mut room = [other(); MOST_SENT];
         let count = frames_to_send(0x22B, single(1), Err(number), &[], &mut room);
         assert_eq!((count, room), (0, [other(); MOST_SENT]));

@@ -14,7 +14,7 @@ returns c =
     let a = c .before .before .before .before .before .before .before .before .args in
     let k = c .before .before .check-call in
     let x = fixed (a .alias) (a .write-lengths) (spacesIn (a .spaces .now)) (a .flash .now) in
-    let e = by-sizes x (a .memory .now) (a .out .now) (k .ensures) in
+    let e = by-sizes x (a .memory .now) (a .out .now) (k .ensures .0) in
     (call-refused x (contents (a .memory .now) (a .lock .now)) (a .datagram .now) (a .out .now) e (tested-bad (k .result) (c .before .is-good .ensures) (c .if1 .taken)), (tt, refl))
 
 returns-2 : tie.Need-returns-2
@@ -22,7 +22,7 @@ returns-2 c =
     let a = c .before .before .before .before .before .before .before .before .before .before .before .before .before .before .before .before .args in
     let k = c .before .before .before .before .before .before .before .before .before .before .check-call in
     let x = fixed (a .alias) (a .write-lengths) (spacesIn (a .spaces .now)) (a .flash .now) in
-    let e = by-sizes x (a .memory .now) (a .out .now) (k .ensures) in
+    let e = by-sizes x (a .memory .now) (a .out .now) (k .ensures .0) in
     let q = tested-good (k .result) (c .before .before .before .before .before .before .before .before .before .is-good .ensures) (c .before .before .before .before .before .before .before .before .if1 .left) in
     let h = c .before .before .before .before .handle .ensures .0 in
     let y = contents (a .memory .now) (a .lock .now) in

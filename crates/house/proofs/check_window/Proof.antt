@@ -24,10 +24,10 @@ returns-6 : tie.Need-returns-6
 returns-6 c = rw (← c .before .before .before .size-of .ensures .0) (simp (le-ltb _ _ (c .before .before .before .before .before .if1 .left), c .before .before .if2 .left, le-ltb _ _ (c .before .if5 .left), c .if6 .taken))
 
 returns-7 : tie.Need-returns-7
-returns-7 c = rw (← c .before .before .before .before .before .size-of .ensures .0) (simp (le-ltb _ _ (c .before .before .before .before .before .before .before .if1 .left), c .before .before .before .before .if2 .left, le-ltb _ _ (c .before .before .before .if5 .left), c .before .before .if6 .left, eq-eqb _ _ (c .if7 .taken)))
+returns-7 c = rw (← c .before .before .before .before .before .size-of .ensures .0, le-ltb _ _ (c .before .before .before .before .before .before .before .if1 .left), c .before .before .before .before .if2 .left, le-ltb _ _ (c .before .before .before .if5 .left), c .before .before .if6 .left, eq-eqb _ 0xFF (c .if7 .taken))
 
 returns-8 : tie.Need-returns-8
-returns-8 c = rw (← c .before .before .before .before .before .size-of .ensures .0) (simp (le-ltb _ _ (c .before .before .before .before .before .before .before .if1 .left), c .before .before .before .before .if2 .left, le-ltb _ _ (c .before .before .before .if5 .left), c .before .before .if6 .left, ne-eqb _ _ (c .if7 .left)))
+returns-8 c = rw (← c .before .before .before .before .before .size-of .ensures .0, le-ltb _ _ (c .before .before .before .before .before .before .before .if1 .left), c .before .before .before .before .if2 .left, le-ltb _ _ (c .before .before .before .if5 .left), c .before .before .if6 .left, ne-eqb _ 0xFF (c .if7 .left))
 
 pub check-window-spec : {M : Type 1} → statement M
 check-window-spec =

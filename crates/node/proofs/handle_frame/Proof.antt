@@ -22,7 +22,7 @@ returns c =
     let k = c .before .before .check-call in
     let x = fixed (a .alias) (a .write-lengths) (spacesIn (a .spaces .now)) (a .flash .now) in
     let e = call-refused x (a .out .now) (stateIn (a .places .now) (a .pool .now)) (contents (a .memory .now) (a .lock .now)) (canFrame (a .header) (a .payload .now))
-    (by-sizes x (a .memory .now) (a .out .now) (k .ensures)) (tested-bad (k .result) (c .before .is-good .ensures) (c .if1 .taken)) in
+    (by-sizes x (a .memory .now) (a .out .now) (k .ensures .0)) (tested-bad (k .result) (c .before .is-good .ensures) (c .if1 .taken)) in
     (rw e (record { answer = refl; reply = refl; memory = refl; lock = refl; short = tt }), (rw e (record { places = refl; renewal = renewed-same (a .places .now); pool = refl }), (tt, (refl, node-order x))))
 
 answer-outcome-requires : tie.Need-answer-outcome-requires
@@ -30,7 +30,7 @@ answer-outcome-requires c κs =
     let a = c .before .before .before .before .before .before .before .before .before .before .before .before .before .before .before .before .args in
     let k = c .before .before .before .before .before .before .before .before .before .before .check-call in
     let x = fixed (a .alias) (a .write-lengths) (spacesIn (a .spaces .now)) (a .flash .now) in
-    let g = sym (by-sizes x (a .memory .now) (a .out .now) (k .ensures)) ∙ is-good (k .result) (tested-good (k .result) (c .before .before .before .before .before .before .before .before .before .is-good .ensures) (c .before .before .before .before .before .before .before .before .if1 .left)) in
+    let g = sym (by-sizes x (a .memory .now) (a .out .now) (k .ensures .0)) ∙ is-good (k .result) (tested-good (k .result) (c .before .before .before .before .before .before .before .before .before .is-good .ensures) (c .before .before .before .before .before .before .before .before .if1 .left)) in
     (house-buffer x (a .memory .now) (a .out .now) g, search needs, c .before .before .before .before .before .join .ensures .inside)
 
 returns-2 : tie.Need-returns-2
@@ -41,7 +41,7 @@ returns-2 c =
     let st = stateIn (a .places .now) (a .pool .now) in
     let w = contents (a .memory .now) (a .lock .now) in
     let f = canFrame (a .header) (a .payload .now) in
-    let g = ap isGood (sym (by-sizes x (a .memory .now) (a .out .now) (k .ensures))) ∙ tested-good (k .result) (c .before .before .before .before .before .before .before .before .before .before .before .before .before .before .is-good .ensures) (c .before .before .before .before .before .before .before .before .before .before .before .before .before .if1 .left) in
+    let g = ap isGood (sym (by-sizes x (a .memory .now) (a .out .now) (k .ensures .0))) ∙ tested-good (k .result) (c .before .before .before .before .before .before .before .before .before .before .before .before .before .before .is-good .ensures) (c .before .before .before .before .before .before .before .before .before .before .before .before .before .if1 .left) in
     let p = c .before .before .before .before .answer-outcome .ensures (receive (a .alias) st f .state) in
     let j = c .before .before .before .before .before .before .before .before .before .before .join .ensures in
     (rw (call-joined x (a .out .now) st w f g j) p, (call-keeps x (a .out .now) st w f g j, (call-small x (a .out .now) st w f g j p, (call-changes x (a .out .now) st w f g j p, node-order x))))

@@ -5,16 +5,16 @@ use Rattle.result.proofs.words_of_frame.Statement.{statement}
 use Rattle.result.proofs.words_of_frame.Tie as tie
 
 returns : tie.Need-returns
-returns c = rw (c .before .before .before .answer .given .1, ← c .before .house-number .ensures) (c .of-kind .ensures .0)
+returns c = rw (c .before .before .answer .given .1) (c .of-house .ensures)
 
 returns-2 : tie.Need-returns-2
-returns-2 c = rw (c .before .enum-told .given .1) (c .of-kind2 .ensures .0)
+returns-2 c = rw (c .before .enum-told .given .1) (c .of-kind .ensures)
 
 returns-3 : tie.Need-returns-3
-returns-3 c = rw (c .before .enum-told2 .given .1) (c .of-kind3 .ensures .0)
+returns-3 c = rw (c .before .enum-told2 .given .1) (c .of-kind2 .ensures)
 
 returns-4 : tie.Need-returns-4
-returns-4 c = rw (c .before .before .answer2 .given .1) (c .of-kind4 .ensures .0)
+returns-4 c = rw (c .before .before .answer2 .given .1) (c .of-kind3 .ensures)
 
 returns-5 : tie.Need-returns-5
 returns-5 c = rw (c .before .before .answer3 .given .1) (c .of-answer .ensures)
@@ -24,7 +24,6 @@ words-of-frame-spec =
     tie.close
     (tie.spec
     (λ c. search needs)
-    (λ c κs. search needs)
     (λ c κs. search needs)
     returns
     (λ c. search needs)

@@ -5,7 +5,7 @@ use Rattle.result.proofs.words_of_handled.Statement.{statement}
 use Rattle.result.proofs.words_of_handled.Tie as tie
 
 returns : tie.Need-returns
-returns c = rw (c .before .before .before .handled .given .1, ← c .before .house-number .ensures) (c .of-kind .ensures .0)
+returns c = rw (c .before .before .handled .given .1) (c .of-house .ensures)
 
 returns-2 : tie.Need-returns-2
 returns-2 c = rw (c .before .before .handled2 .given .1) (c .of-answer .ensures)
@@ -15,7 +15,6 @@ words-of-handled-spec =
     tie.close
     (tie.spec
     (λ c. search needs)
-    (λ c κs. search needs)
     (λ c κs. search needs)
     returns
     (λ c. search needs)

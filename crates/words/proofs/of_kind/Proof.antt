@@ -1,9 +1,10 @@
 -- `of_kind` meets its contract.
 -- Assumes nothing.
-use Prim.Native.Nat.{min, _<_}
-use mathlib.Core.Path.{_≡_, refl}
+use Prim.Native.Nat.{min}
+use mathlib.Core.Path.{refl}
 use native.Mathlib.Omega.{arith}
 use borrow.Author.Needs.{needs}
+use Rattle.words.specs.Words.{noPosition}
 use Rattle.words.proofs.WordLaws.{sum-fields}
 use Rattle.words.proofs.of_kind.Statement.{statement}
 use Rattle.words.proofs.of_kind.Tie as tie
@@ -11,17 +12,15 @@ use Rattle.words.proofs.of_kind.Tie as tie
 returns : tie.Need-returns
 returns c =
     let a = c .before .args in
-    let e = c .byte .ensures in (
-      sum-fields (a .kind) (a .house) (a .flags) (a .code) 0 0 0 (min (a .frame-count) 255) (omega arith) (omega arith) (omega arith) (omega arith) (omega arith) (omega arith) (omega arith)
-          (omega arith) _ refl (omega (arith, e)),
-      omega (arith, e),
-    )
+    let e = c .byte .ensures in
+    sum-fields (a .kind) 0 noPosition (a .flags) (a .code) 0 0 0 (min (a .frame-count) 255) (omega arith) (omega arith) (omega arith) (omega arith) (omega arith) (omega arith) (omega arith) (omega arith) (omega arith) _ (omega arith) (omega (arith, e))
 
 pub of-kind-spec : {M : Type 1} → statement M
 of-kind-spec =
     tie.close
     (tie.spec
     (λ c κs. search needs)
+    (λ c. search needs)
     (λ c. search needs)
     (λ c. search needs)
     (λ c. search needs)

@@ -1,9 +1,10 @@
 -- `of_reply` meets its contract.
 -- Assumes nothing.
 use Prim.Native.Nat.{min}
-use mathlib.Core.Path.{_≡_, refl}
+use mathlib.Core.Path.{refl}
 use native.Mathlib.Omega.{arith}
 use borrow.Author.Needs.{needs}
+use Rattle.words.specs.Words.{noPosition}
 use Rattle.words.proofs.WordLaws.{sum-fields}
 use Rattle.words.proofs.of_reply.Statement.{statement}
 use Rattle.words.proofs.of_reply.Tie as tie
@@ -12,11 +13,8 @@ returns : tie.Need-returns
 returns c =
     let a = c .before .before .args in
     let e = c .byte2 .ensures in
-    let f = c .before .byte .ensures in (
-      sum-fields 6 0 0x80 0 0 0 (min (a .n) 255) (min (a .frame-count) 255) (omega arith) (omega arith) (omega arith) (omega arith) (omega arith) (omega arith) (omega arith) (omega arith)
-          _ refl (omega (arith, e, f)),
-      omega (arith, e, f),
-    )
+    let f = c .before .byte .ensures in
+    sum-fields 6 0 noPosition 0x80 0 0 0 (min (a .n) 255) (min (a .frame-count) 255) (omega arith) (omega arith) (omega arith) (omega arith) (omega arith) (omega arith) (omega arith) (omega arith) (omega arith) _ refl (omega (arith, e, f))
 
 pub of-reply-spec : {M : Type 1} → statement M
 of-reply-spec =
@@ -24,6 +22,9 @@ of-reply-spec =
     (tie.spec
     (λ c κs. search needs)
     (λ c κs. search needs)
+    (λ c. search needs)
+    (λ c. search needs)
+    (λ c. search needs)
     (λ c. search needs)
     (λ c. search needs)
     (λ c. search needs)

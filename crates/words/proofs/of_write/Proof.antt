@@ -1,9 +1,10 @@
 -- `of_write` meets its contract.
 -- Assumes nothing.
 use Prim.Native.Nat.{min}
-use mathlib.Core.Path.{_≡_, refl}
+use mathlib.Core.Path.{refl}
 use native.Mathlib.Omega.{arith}
 use borrow.Author.Needs.{needs}
+use Rattle.words.specs.Words.{noPosition}
 use Rattle.words.proofs.WordLaws.{sum-fields}
 use Rattle.words.proofs.of_write.Statement.{statement}
 use Rattle.words.proofs.of_write.Tie as tie
@@ -13,11 +14,8 @@ returns c =
     let a = c .before .before .before .args in
     let e = c .byte2 .ensures in
     let f = c .before .byte .ensures in
-    let g = c .before .before .four-bytes .ensures in (
-      sum-fields 5 0 0 0 (min (a .index) 0xFFFFFFFF) (min (a .n) 255) 0 (min (a .frame-count) 255) (omega arith) (omega arith) (omega arith) (omega arith) (omega arith) (omega arith) (omega arith)
-          (omega arith) _ refl (omega (arith, e, f, g)),
-      omega (arith, e, f, g),
-    )
+    let g = c .before .before .four-bytes .ensures in
+    sum-fields 5 0 noPosition 0 0 (min (a .index) 0xFFFFFFFF) (min (a .n) 255) 0 (min (a .frame-count) 255) (omega arith) (omega arith) (omega arith) (omega arith) (omega arith) (omega arith) (omega arith) (omega arith) (omega arith) _ refl (omega (arith, e, f, g))
 
 pub of-write-spec : {M : Type 1} → statement M
 of-write-spec =
@@ -26,6 +24,9 @@ of-write-spec =
     (λ c κs. search needs)
     (λ c κs. search needs)
     (λ c κs. search needs)
+    (λ c. search needs)
+    (λ c. search needs)
+    (λ c. search needs)
     (λ c. search needs)
     (λ c. search needs)
     (λ c. search needs)

@@ -1,0 +1,175 @@
+-- What the position of a refused space says.
+-- Assumes nothing.
+use Prim.Native.Nat.{ℕ, zero, suc, _+_, _≤_, _<_, min}
+use mathlib.Core.Path.{_≡_, refl, sym, ap, _∙_}
+use mathlib.Core.Bool.{Bool, true, false, cond, not, _&&_, _||_}
+use mathlib.Core.List.{List, [], _∷_, _++_, append-nil, append-assoc}
+use native.Mathlib.Omega.{arith}
+use native.Mathlib.Numerals.{add-one}
+use lib.Dec.{eqb, ltb}
+use lib.ListN.{length, take, getD, length-append, length-take}
+use borrow.Author.Tests.{ltb-false, le-ltb}
+use Rattle.buffer.proofs.Choice.{cond-true, cond-false, cond-elim, cond-not, clash, by-test}
+use Rattle.board.specs.Description.{sizeOf, storeOf}
+use Rattle.table.specs.Table.{noSpace}
+use Rattle.table.specs.declared.Space.{Space}
+use Rattle.house.specs.HouseNumbers.{houseNumberOf, isGood, orElse, among, numbersOf, windowHouse, spaceHouse, spacesHouse, limitsHouse, descriptionHouse}
+use Rattle.house.specs.Positions.{RefusedAt, Positioned}
+use Rattle.house.specs.declared.HouseNumber.{HouseNumber}
+use Rattle.house.specs.declared.HouseNumber.the-variants.{Good, B11, B12, B13, B14, B2, B3, B4, B5}
+use Rattle.house.specs.declared.Position.{Position}
+use Rattle.house.specs.declared.Position.the-variants.{Nowhere, At}
+use Rattle.house.proofs.Laws.{is-good, bad, orElse-good, limits-count, good-spaces}
+
+-- ---- positions
+
+-- a position is one number, and none is no position
+index : Position → ℕ
+index Nowhere = 0
+index (At i) = i
+
+same-index : {i j : ℕ} → At i ≡ At j → i ≡ j
+unfolding index
+same-index e = ap index e
+
+is-at : Position → Bool
+is-at Nowhere = false
+is-at (At i) = true
+
+not-nowhere : {X : Type 0} {p : Position} {i : ℕ} → p ≡ Nowhere → p ≡ At i → X
+unfolding is-at
+not-nowhere e q = clash (sym (ap is-at (sym e ∙ q)))
+
+good-nowhere : {h : HouseNumber} → h ≡ Good → houseNumberOf h .position ≡ Nowhere
+good-nowhere e = ap (λ (h : HouseNumber). houseNumberOf h .position) e
+
+-- a limit has no position
+limits-nowhere : (alias n f m : ℕ) → houseNumberOf (limitsHouse alias n f m) .position ≡ Nowhere
+limits-nowhere alias n f m =
+    cond-elim (λ h. houseNumberOf h .position ≡ Nowhere) (ltb 16 n) (λ q. refl)
+    (λ q. cond-elim (λ h. houseNumberOf h .position ≡ Nowhere) (ltb 65536 m) (λ q. refl)
+    (λ q. cond-elim (λ h. houseNumberOf h .position ≡ Nowhere) (ltb 65536 f) (λ q. refl)
+    (λ q. cond-elim (λ h. houseNumberOf h .position ≡ Nowhere) (eqb alias 0 || ltb 4095 alias) (λ q. refl) (λ q. refl))))
+
+-- a space that is refused brings its position, the number of spaces before it
+abbrev Placed : ℕ → HouseNumber → Type 0
+Placed p h = isGood h ≡ false → houseNumberOf h .position ≡ At p
+
+good-placed : (p : ℕ) → Placed p Good
+good-placed p e = clash e
+
+window-placed : (f m p : ℕ) (s : Space) → Placed p (windowHouse f m p s)
+window-placed f m p s =
+    cond-elim (Placed p) (ltb (s .highest) (s .lowest)) (λ q e. refl)
+    (λ q. cond-elim (Placed p) (ltb (storeOf s f m) (s .offset + sizeOf s)) (λ q e. refl)
+    (λ q. cond-elim (Placed p) (not (s .«read_only») && (s .«in_flash» || eqb (s .number) 0xFF)) (λ q e. refl) (λ q. good-placed p)))
+
+space-placed : (f m : ℕ) (earlier : List ℕ) (s : Space) → Placed (length earlier) (spaceHouse f m earlier s)
+space-placed f m earlier s =
+    cond-elim (Placed (length earlier)) (isGood (windowHouse f m _ s))
+    (λ q. cond-elim (Placed (length earlier)) (among (s .number) earlier) (λ q e. refl) (λ q. good-placed (length earlier)))
+    (λ q. window-placed f m _ s)
+
+-- ---- the spaces behind those with the numbers `earlier`
+
+-- space k of a list is refused with a house number, behind `earlier` and the k before it
+record Behind (f m : ℕ) (earlier : List ℕ) (l : List Space) (k : ℕ) (h : HouseNumber) : Type 0 where
+  inside : k < length l
+  before : spacesHouse f m earlier (take k l) ≡ Good
+  here : spaceHouse f m (earlier ++ numbersOf (take k l)) (getD l k noSpace) ≡ h
+
+module _ (f m : ℕ) where
+  -- a space of a longer list
+  longer : {earlier : List ℕ} {s : Space} {l : List Space} {k : ℕ} {h : HouseNumber} → spaceHouse f m earlier s ≡ Good
+      → Behind f m (earlier ++ (s .number ∷ [])) l k h → Behind f m earlier (s ∷ l) (suc k) h
+  unfolding spacesHouse numbersOf
+  longer {earlier} {s} {l} {k} g b =
+      record {
+        inside = omega (arith, b .inside);
+        before = rw g (b .before);
+        here = ap (λ (numbers : List ℕ). spaceHouse f m numbers (getD l k noSpace)) (sym (append-assoc earlier (s .number ∷ []) (numbersOf (take k l)))) ∙ b .here;
+      }
+
+  -- the same of a shorter one
+  shorter : {earlier : List ℕ} {s : Space} {l : List Space} {k : ℕ} {h : HouseNumber} → Behind f m earlier (s ∷ l) (suc k) h
+      → (spaceHouse f m earlier s ≡ Good) × Behind f m (earlier ++ (s .number ∷ [])) l k h
+  unfolding spacesHouse numbersOf
+  shorter {earlier} {s} {l} {k} b =
+      let g = orElse-good (spaceHouse f m earlier s) (spacesHouse f m (earlier ++ (s .number ∷ [])) (take k l)) (b .before) in (
+        g .0,
+        record {
+          inside = omega (arith, b .inside);
+          before = g .1;
+          here = ap (λ (numbers : List ℕ). spaceHouse f m numbers (getD l k noSpace)) (append-assoc earlier (s .number ∷ []) (numbersOf (take k l))) ∙ b .here;
+        },
+      )
+
+  -- a house number with a position is that of such a space
+  search-says : (earlier : List ℕ) (l : List Space) (i : ℕ) (h : HouseNumber) → spacesHouse f m earlier l ≡ h → houseNumberOf h .position ≡ At i
+      → (k : ℕ) × (i ≡ length earlier + k) × Behind f m earlier l k h
+  unfolding spacesHouse numbersOf
+  search-says earlier [] i h e p = not-nowhere (good-nowhere (sym e)) p
+  search-says earlier (s ∷ l) i h e p =
+      by-test (isGood (spaceHouse f m earlier s))
+      (λ q.
+      let r = search-says (earlier ++ (s .number ∷ [])) l i h (sym (cond-true _ _ _ q) ∙ e) p in
+      (suc (r .0), omega (arith, r .1, length-append earlier (s .number ∷ [])), longer (is-good _ q) (r .2)))
+      (λ q.
+      let first : spaceHouse f m earlier s ≡ h = sym (cond-false _ _ _ q) ∙ e in
+      let at = same-index (sym (space-placed f m earlier s q) ∙ ap (λ (h : HouseNumber). houseNumberOf h .position) first ∙ p) in
+      (0, omega (arith, at), record { inside = omega arith; before = refl; here = ap (λ (numbers : List ℕ). spaceHouse f m numbers s) (append-nil earlier) ∙ first }))
+
+  -- and such a space is found
+  search-finds : (earlier : List ℕ) (l : List Space) (k : ℕ) (h : HouseNumber) → Behind f m earlier l k h → isGood h ≡ false → spacesHouse f m earlier l ≡ h
+  unfolding spacesHouse numbersOf
+  search-finds earlier [] k h b q = absurd (omega (arith, b .inside))
+  search-finds earlier (s ∷ l) zero h b q =
+      let first : spaceHouse f m earlier s ≡ h = ap (λ (numbers : List ℕ). spaceHouse f m numbers s) (sym (append-nil earlier)) ∙ b .here in
+      cond-false _ _ _ (ap isGood first ∙ q) ∙ first
+  search-finds earlier (s ∷ l) (suc k) h b q =
+      let r = shorter b in
+      rw (r .0) (search-finds (earlier ++ (s .number ∷ [])) l k h (r .1) q)
+
+-- ---- a description
+
+-- what no limit refuses is not refused with another number of spaces, at most 16
+limits-other : (alias n k f m : ℕ) → n ≤ 16 → limitsHouse alias k f m ≡ Good → limitsHouse alias n f m ≡ Good
+limits-other alias n k f m h g = cond-false (ltb 16 n) B11 _ (le-ltb 16 n h) ∙ cond-not (ltb 16 k) {a = B11} g (bad refl) .1
+
+module _ (alias f m : ℕ) (l : List Space) where
+  description-says : (h : HouseNumber) → descriptionHouse alias l f m ≡ h → (i : ℕ) → houseNumberOf h .position ≡ At i → RefusedAt alias f m l i h
+  unfolding descriptionHouse numbersOf
+  description-says h e i p =
+      by-test (isGood (limitsHouse alias (length l) f m))
+      (λ q.
+      let g = is-good _ q in
+      let r = search-says f m [] l i h (sym (cond-true _ _ _ q) ∙ e) p in
+      let few = limits-count alias (length l) f m g in
+      let at : i ≡ r .0 = omega (arith, r .1) in
+      let fewer : length (take (r .0) l) ≤ 16 = omega (arith, few, length-take (r .0) l) in
+      rw at (record {
+        few = few;
+        inside = r .2 .inside;
+        before = rw (limits-other alias (length (take (r .0) l)) (length l) f m fewer g) (r .2 .before);
+        here = r .2 .here;
+      }))
+      (λ q. not-nowhere (limits-nowhere alias (length l) f m) (ap (λ (h : HouseNumber). houseNumberOf h .position) (sym (cond-false _ _ _ q) ∙ e) ∙ p))
+
+  description-finds : (i : ℕ) (h : HouseNumber) → RefusedAt alias f m l i h → isGood h ≡ false → descriptionHouse alias l f m ≡ h
+  unfolding descriptionHouse numbersOf
+  description-finds i h r q =
+      let g = orElse-good _ _ (r .before) in
+      rw (limits-other alias (length l) (length (take i l)) f m (r .few) (g .0))
+      (search-finds f m [] l i h (record { inside = r .inside; before = g .1; here = r .here }) q)
+
+  -- what is tested behind the description has no position of its own
+  pub positioned : (other : HouseNumber) → houseNumberOf other .position ≡ Nowhere → Positioned alias f m l (orElse (descriptionHouse alias l f m) other)
+  positioned other nowhere =
+      record {
+        says = λ i p. by-test (isGood (descriptionHouse alias l f m))
+            (λ q. not-nowhere (ap (λ (h : HouseNumber). houseNumberOf h .position) (cond-true _ _ _ q) ∙ nowhere) p)
+            (λ q. description-says _ (sym (cond-false _ _ _ q)) i p);
+        found = λ i h r q.
+            let e = description-finds i h r q in
+            cond-false _ _ _ (ap isGood e ∙ q) ∙ e;
+      }
