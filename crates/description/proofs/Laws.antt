@@ -1,15 +1,14 @@
 -- Laws of the spaces of a table, looked through in their order, and of the house number of a call.
 -- Assumes nothing.
-use Prim.Native.Nat.{ℕ, zero, suc, _+_, _-_, _*_, _/_, _%_, _^_, _≤_, _<_, min, max}
+use Prim.Native.Nat.{ℕ, zero, suc, _+_, _-_, _*_, _/_, _%_, _^_, _≤_, _<_, max}
 use mathlib.Core.Path.{_≡_, refl, sym, ap, subst, _∙_}
 use mathlib.Core.Bool.{Bool, true, false, cond, not, _||_}
 use mathlib.Core.List.{List, [], _∷_, _++_}
 use native.Mathlib.Numerals.{add-one}
 use native.Mathlib.Omega.{arith}
 use lib.Arith.{bin-ind}
-use lib.Bits.{bitAnd, bitOr, and-step, or-step, and-zero-l, and-self, or-comm}
-use lib.Dec.{eqb, ltb, lit<}
-use lib.Pow.{pow-pos, shl-exact}
+use lib.Bits.{bitOr, or-step, or-zero-l, or-self, or-comm}
+use lib.Dec.{eqb, ltb}
 use lib.ListN.{length, drop, getD, drop-of-length-le}
 use lib.Seq.{drop-cons}
 use borrow.Author.Tests.{eq-eqb, ne-eqb}
@@ -62,12 +61,12 @@ unfolding numbersOf spacesFrom
 numbers-length t i zero = refl
 numbers-length t i (suc n) = ap suc (numbers-length t (i + 1) n)
 
--- a mark for each number, the bit at its remainder: where it is not set, no earlier space has the number
+-- a mark for each number, the bit at its remainder: where setting it changes the marks, no earlier space has the number
 abbrev pub markOf : ℕ → ℕ
 markOf n = (1 * 2 ^ (n % 64)) % 2 ^ 64
 
 abbrev pub Marks : ℕ → List ℕ → Type 0
-Marks marks earlier = (k : ℕ) → bitAnd marks (markOf k) ≡ 0 → among k earlier ≡ false
+Marks marks earlier = (k : ℕ) → (bitOr marks (markOf k) ≡ marks → ⊥) → among k earlier ≡ false
 
 among-more : (k n : ℕ) (l : List ℕ) → among k (l ++ (n ∷ [])) ≡ (eqb n k || among k l)
 unfolding among
@@ -79,33 +78,37 @@ among-more k n (m ∷ l) = rw (among-more k n l) (or-swap (eqb m k) (eqb n k) (a
     or-swap true false c = refl
     or-swap false b c = refl
 
-mark-set : (n : ℕ) → markOf n ≡ 0 → ⊥
-mark-set n z =
-    let e : markOf n ≡ 1 * 2 ^ (n % 64) = shl-exact {a = 1} 1 (n % 64) 64 (lit< tt) (omega arith) in
-    absurd (omega (arith, e, pow-pos (n % 64)))
+-- bits that are put together group as one pleases
+or-half : (a b : ℕ) → bitOr a b / 2 ≡ bitOr (a / 2) (b / 2)
+or-half a b = omega (arith, or-step a b)
 
--- bits that are not set were not set before others were
-or-clear : (a b c : ℕ) → bitAnd (bitOr a b) c ≡ 0 → bitAnd a c ≡ 0
-or-clear a =
-    bin-ind (λ (n : ℕ). (b c : ℕ) → bitAnd (bitOr n b) c ≡ 0 → bitAnd n c ≡ 0) (λ b c z. and-zero-l c)
-    (λ n ih b c z.
-    let half : bitOr n b / 2 ≡ bitOr (n / 2) (b / 2) = omega (arith, or-step n b) in
-    let bit : bitOr n b % 2 ≡ max (n % 2) (b % 2) = omega (arith, or-step n b) in
-    let s : bitAnd (bitOr (n / 2) (b / 2)) (c / 2) * 2 + min (max (n % 2) (b % 2)) (c % 2) ≡ 0 = rw (← half, ← bit) (sym (and-step (bitOr n b) c) ∙ z) in
-    let rest : bitAnd (n / 2) (c / 2) ≡ 0 = ih (b / 2) (c / 2) (omega (arith, s)) in
-    omega (arith, and-step n c, rest, s)) a
+or-bit : (a b : ℕ) → bitOr a b % 2 ≡ max (a % 2) (b % 2)
+or-bit a b = omega (arith, or-step a b)
+
+or-assoc : (a b c : ℕ) → bitOr (bitOr a b) c ≡ bitOr a (bitOr b c)
+or-assoc a =
+    bin-ind (λ (n : ℕ). (b c : ℕ) → bitOr (bitOr n b) c ≡ bitOr n (bitOr b c)) (λ b c. rw (or-zero-l b, or-zero-l (bitOr b c)))
+    (λ n ih b c.
+    let l : bitOr (bitOr n b) c ≡ bitOr (bitOr (n / 2) (b / 2)) (c / 2) * 2 + max (max (n % 2) (b % 2)) (c % 2) = rw (← or-half n b, ← or-bit n b) (or-step (bitOr n b) c) in
+    let r : bitOr n (bitOr b c) ≡ bitOr (n / 2) (bitOr (b / 2) (c / 2)) * 2 + max (n % 2) (max (b % 2) (c % 2)) = rw (← or-half b c, ← or-bit b c) (or-step n (bitOr b c)) in
+    omega (arith, l, r, ih (b / 2) (c / 2))) a
 
 pub marks-none : Marks 0 []
 unfolding among
 marks-none k z = refl
 
+-- a mark that was set stays set, and the mark of a number is set behind it
 pub marks-more : (marks : ℕ) (earlier : List ℕ) (n : ℕ) → Marks marks earlier → Marks (bitOr marks (markOf n)) (earlier ++ (n ∷ []))
-marks-more marks earlier n m k z = rw (among-more k n earlier, ne-eqb n k other, m k (or-clear marks (markOf n) (markOf k) z))
+marks-more marks earlier n m k z = rw (among-more k n earlier, ne-eqb n k other, m k unset)
   where
     other : n ≡ k → ⊥
-    other q =
-        let y : bitAnd (bitOr (markOf n) marks) (markOf n) ≡ 0 = ap (λ (w : ℕ). bitAnd w (markOf n)) (or-comm (markOf n) marks) ∙ ap (λ (j : ℕ). bitAnd (bitOr marks (markOf n)) (markOf j)) q ∙ z in
-        mark-set n (sym (and-self (markOf n)) ∙ or-clear (markOf n) marks (markOf n) y)
+    other q = z (ap (λ (j : ℕ). bitOr (bitOr marks (markOf n)) (markOf j)) (sym q) ∙ or-assoc marks (markOf n) (markOf n) ∙ ap (bitOr marks) (or-self (markOf n)))
+
+    unset : bitOr marks (markOf k) ≡ marks → ⊥
+    unset q =
+        z
+        (or-assoc marks (markOf n) (markOf k) ∙ ap (bitOr marks) (or-comm (markOf n) (markOf k)) ∙ sym (or-assoc marks (markOf k) (markOf n))
+        ∙ ap (λ (w : ℕ). bitOr w (markOf n)) q)
 
 -- ---- the check
 

@@ -21,7 +21,7 @@ pub fn check_spaces(table: &[u8], flash_len: usize, memory_len: usize) -> HouseN
 }
 
 // Whether the spaces pass a quick look, which knows nothing of positions; where they do, nothing refuses them. Each sets a mark, the bit at the
-// remainder of its number by 64: as long as none is set already, no number is used twice.
+// remainder of its number by 64: as long as each changes the marks, no number is used twice.
 fn pass_quickly(table: &[u8], flash_len: usize, memory_len: usize) -> bool
     ensures { λ r. ⌜ (r ≡ true → spacesHouse «flash_len» «memory_len» [] (spacesIn (now (table .entry))) ≡ Good) ⌝ }
 {
@@ -33,11 +33,11 @@ fn pass_quickly(table: &[u8], flash_len: usize, memory_len: usize) -> bool
         if !house::is_window_good(space, flash_len, memory_len) {
             return false;
         }
-        let mark = 1u64 << (space.number % 64);
-        if marks & mark != 0 {
+        let marked = marks | 1u64 << (space.number % 64);
+        if marked == marks {
             return false;
         }
-        marks = marks | mark;
+        marks = marked;
         i += 1;
     }
     true
