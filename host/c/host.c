@@ -17,6 +17,9 @@
  *
  * Nobody is waited for without a bound: there are CONNECTIONS_MAX tools at most, no more than OUTPUT_MAX bytes wait for one, and none is
  * waited for longer than WAIT_MAX.
+ *
+ * Where the library refuses the board, a sentence on standard error says why, and at the start the program ends: the demonstration board is a
+ * good one, and another that is put in its place may not be.
  */
 #define _POSIX_C_SOURCE 200809L
 
