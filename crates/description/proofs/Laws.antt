@@ -16,13 +16,12 @@ use Rattle.buffer.proofs.Choice.{cond-elim}
 use Rattle.table.specs.Table.{noSpace, rowAt, spaceAt, spacesFrom, spacesIn}
 use Rattle.table.proofs.TableLaws.{spaces-length, space-in, table-next, table-done}
 use Rattle.table.specs.declared.Space.{Space}
-use Rattle.house.specs.HouseNumbers.{houseNumberOf, isGood, orElse, among, numbersOf, windowHouse, spacesHouse}
+use Rattle.house.specs.HouseNumbers.{isGood, orElse, among, numbersOf, windowHouse, spacesHouse}
 use Rattle.house.specs.declared.HouseNumber.{HouseNumber}
 use Rattle.house.specs.declared.HouseNumber.the-variants.{Good, B5}
 use Rattle.house.specs.Positions.{Positioned}
-use Rattle.house.specs.declared.Position.the-variants.{Nowhere}
 use Rattle.house.proofs.Laws.{tested-bad, tested-good}
-use Rattle.house.proofs.Positions.{positioned}
+use Rattle.house.proofs.Positions.{Unplaced, positioned}
 use Rattle.description.specs.Calls.{bufferHouse, callHouse}
 
 -- ---- the numbers that are used
@@ -135,8 +134,8 @@ turn-none l i f m earlier h = rw (drop-of-length-le l {i = i} h)
 
 -- ---- a call
 
-buffer-nowhere : (reply : ℕ) → houseNumberOf (bufferHouse reply) .position ≡ Nowhere
-buffer-nowhere reply = cond-elim (λ h. houseNumberOf h .position ≡ Nowhere) (ltb reply 72) (λ q. refl) (λ q. refl)
+buffer-nowhere : (reply : ℕ) → Unplaced (bufferHouse reply)
+buffer-nowhere reply = cond-elim Unplaced (ltb reply 72) (λ q. refl) (λ q. refl)
 
 -- the house number of a call, and what its position says
 pub call-positioned : (alias : ℕ) (l : List Space) (f m reply : ℕ) {house : HouseNumber} → house ≡ callHouse alias l f m reply

@@ -67,9 +67,6 @@ module _ (alias : ℕ) (l : List Space) (f m : ℕ) (g : descriptionHouse alias 
   unfolding descriptionHouse
   parts = orElse-good (limitsHouse alias (length l) f m) (spacesHouse f m [] l) g
 
-  pub good-count : length l ≤ 16
-  good-count = limits-count alias (length l) f m (parts .0)
-
   pub good-memory : m ≤ 65536
   good-memory =
       let few = cond-not (ltb 16 (length l)) {a = B11} (parts .0) (bad refl) .1 in
@@ -86,32 +83,36 @@ pub record Fine (f m : ℕ) (s : Space) : Type 0 where
   -- what may be written lies in memory
   pub writable : s .«read_only» ≡ false → s .«in_flash» ≡ false
 
-pub window-fine : (f m position : ℕ) (s : Space) → windowHouse f m position s ≡ Good → Fine f m s
-window-fine f m position s g =
-    let p = cond-not (ltb (s .highest) (s .lowest)) g (bad refl) in
-    let q = cond-not (ltb (storeOf s f m) (s .offset + sizeOf s)) (p .1) (bad refl) in
-    let w = cond-not (not (s .«read_only») && (s .«in_flash» || eqb (s .number) 0xFF)) (q .1) (bad refl) .0 in
-    record {
-      ordered = ltb-false _ _ (p .0);
-      within = ltb-false _ _ (q .0);
-      writable = λ r. or-left (s .«in_flash») (eqb (s .number) 0xFF) (sym (ap (λ (t : Bool). not t && (s .«in_flash» || eqb (s .number) 0xFF)) r) ∙ w);
-    }
-
--- whether it is refused does not hang on its position
+-- the tests of B2, B3 and B4
 module _ (f m : ℕ) (s : Space) where
-  abbrev crossed : Bool
-  crossed = ltb (s .highest) (s .lowest)
+  abbrev pub lowest-above : Bool
+  lowest-above = ltb (s .highest) (s .lowest)
 
-  abbrev outside : Bool
-  outside = ltb (storeOf s f m) (s .offset + sizeOf s)
+  abbrev pub past-the-end : Bool
+  past-the-end = ltb (storeOf s f m) (s .offset + sizeOf s)
 
-  abbrev open-to-writes : Bool
-  open-to-writes = not (s .«read_only») && (s .«in_flash» || eqb (s .number) 0xFF)
+  abbrev pub must-be-read-only : Bool
+  must-be-read-only = s .«in_flash» || eqb (s .number) 0xFF
 
-  window-passes : (p : ℕ) → isGood (windowHouse f m p s) ≡ cond crossed false (cond outside false (cond open-to-writes false true))
+  abbrev pub wrongly-writable : Bool
+  wrongly-writable = not (s .«read_only») && must-be-read-only
+
+  pub window-fine : (position : ℕ) → windowHouse f m position s ≡ Good → Fine f m s
+  window-fine position g =
+      let p = cond-not lowest-above g (bad refl) in
+      let q = cond-not past-the-end (p .1) (bad refl) in
+      let w = cond-not wrongly-writable (q .1) (bad refl) .0 in
+      record {
+        ordered = ltb-false _ _ (p .0);
+        within = ltb-false _ _ (q .0);
+        writable = λ r. or-left (s .«in_flash») (eqb (s .number) 0xFF) (sym (ap (λ (t : Bool). not t && must-be-read-only) r) ∙ w);
+      }
+
+  -- whether a space is refused does not hang on its position
+  window-passes : (p : ℕ) → isGood (windowHouse f m p s) ≡ cond lowest-above false (cond past-the-end false (cond wrongly-writable false true))
   window-passes p =
-      cond-map isGood crossed (B2 p) _
-      ∙ ap (λ (g : Bool). cond crossed false g) (cond-map isGood outside (B3 p) _ ∙ ap (λ (g : Bool). cond outside false g) (cond-map isGood open-to-writes (B4 p) Good))
+      cond-map isGood lowest-above (B2 p) _
+      ∙ ap (λ (g : Bool). cond lowest-above false g) (cond-map isGood past-the-end (B3 p) _ ∙ ap (λ (g : Bool). cond past-the-end false g) (cond-map isGood wrongly-writable (B4 p) Good))
 
   pub window-anywhere : (p q : ℕ) → isGood (windowHouse f m p s) ≡ isGood (windowHouse f m q s)
   window-anywhere p q = window-passes p ∙ sym (window-passes q)
@@ -128,7 +129,7 @@ find-fine f m n earlier [] g = cond-elim (FoundFine f m) (ltb n 0xFD) (λ q. tt)
 find-fine f m n earlier (s ∷ l) g =
     let k = orElse-good (spaceHouse f m earlier s) _ g in
     cond-elim (FoundFine f m) (eqb (s .number) n)
-    (λ q. window-fine f m _ s (orElse-good (windowHouse f m _ s) _ (k .0) .0))
+    (λ q. window-fine f m s _ (orElse-good (windowHouse f m _ s) _ (k .0) .0))
     (λ q. find-fine f m n (earlier ++ (s .number ∷ [])) l (k .1))
 
 pub good-find : (alias : ℕ) (l : List Space) (f m n : ℕ) → descriptionHouse alias l f m ≡ Good → FoundFine f m (findSpace l n)

@@ -1,27 +1,31 @@
 -- What the position of a refused space says.
 -- Assumes nothing.
-use Prim.Native.Nat.{ℕ, zero, suc, _+_, _≤_, _<_, min}
+use Prim.Native.Nat.{ℕ, zero, suc, _+_, _≤_, _<_}
 use mathlib.Core.Path.{_≡_, refl, sym, ap, _∙_}
-use mathlib.Core.Bool.{Bool, true, false, cond, not, _&&_, _||_}
+use mathlib.Core.Bool.{Bool, true, false, _||_}
 use mathlib.Core.List.{List, [], _∷_, _++_, append-nil, append-assoc}
 use native.Mathlib.Omega.{arith}
-use native.Mathlib.Numerals.{add-one}
 use lib.Dec.{eqb, ltb}
 use lib.ListN.{length, take, getD, length-append, length-take}
-use borrow.Author.Tests.{ltb-false, le-ltb}
+use borrow.Author.Tests.{le-ltb}
 use Rattle.buffer.proofs.Choice.{cond-true, cond-false, cond-elim, cond-not, clash, by-test}
-use Rattle.board.specs.Description.{sizeOf, storeOf}
 use Rattle.table.specs.Table.{noSpace}
 use Rattle.table.specs.declared.Space.{Space}
 use Rattle.house.specs.HouseNumbers.{houseNumberOf, isGood, orElse, among, numbersOf, windowHouse, spaceHouse, spacesHouse, limitsHouse, descriptionHouse}
 use Rattle.house.specs.Positions.{RefusedAt, Positioned}
 use Rattle.house.specs.declared.HouseNumber.{HouseNumber}
-use Rattle.house.specs.declared.HouseNumber.the-variants.{Good, B11, B12, B13, B14, B2, B3, B4, B5}
+use Rattle.house.specs.declared.HouseNumber.the-variants.{Good, B11}
 use Rattle.house.specs.declared.Position.{Position}
 use Rattle.house.specs.declared.Position.the-variants.{Nowhere, At}
-use Rattle.house.proofs.Laws.{is-good, bad, orElse-good, limits-count, good-spaces}
+use Rattle.house.proofs.Laws.{is-good, bad, orElse-good, limits-count, lowest-above, past-the-end, wrongly-writable}
 
 -- ---- positions
+
+abbrev positionOf : HouseNumber → Position
+positionOf h = houseNumberOf h .position
+
+abbrev pub Unplaced : HouseNumber → Type 0
+Unplaced h = positionOf h ≡ Nowhere
 
 -- a position is one number, and none is no position
 index : Position → ℕ
@@ -40,29 +44,29 @@ not-nowhere : {X : Type 0} {p : Position} {i : ℕ} → p ≡ Nowhere → p ≡ 
 unfolding is-at
 not-nowhere e q = clash (sym (ap is-at (sym e ∙ q)))
 
-good-nowhere : {h : HouseNumber} → h ≡ Good → houseNumberOf h .position ≡ Nowhere
-good-nowhere e = ap (λ (h : HouseNumber). houseNumberOf h .position) e
+good-nowhere : {h : HouseNumber} → h ≡ Good → Unplaced h
+good-nowhere e = ap positionOf e
 
 -- a limit has no position
-limits-nowhere : (alias n f m : ℕ) → houseNumberOf (limitsHouse alias n f m) .position ≡ Nowhere
+limits-nowhere : (alias n f m : ℕ) → Unplaced (limitsHouse alias n f m)
 limits-nowhere alias n f m =
-    cond-elim (λ h. houseNumberOf h .position ≡ Nowhere) (ltb 16 n) (λ q. refl)
-    (λ q. cond-elim (λ h. houseNumberOf h .position ≡ Nowhere) (ltb 65536 m) (λ q. refl)
-    (λ q. cond-elim (λ h. houseNumberOf h .position ≡ Nowhere) (ltb 65536 f) (λ q. refl)
-    (λ q. cond-elim (λ h. houseNumberOf h .position ≡ Nowhere) (eqb alias 0 || ltb 4095 alias) (λ q. refl) (λ q. refl))))
+    cond-elim Unplaced (ltb 16 n) (λ q. refl)
+    (λ q. cond-elim Unplaced (ltb 65536 m) (λ q. refl)
+    (λ q. cond-elim Unplaced (ltb 65536 f) (λ q. refl)
+    (λ q. cond-elim Unplaced (eqb alias 0 || ltb 4095 alias) (λ q. refl) (λ q. refl))))
 
 -- a space that is refused brings its position, the number of spaces before it
 abbrev Placed : ℕ → HouseNumber → Type 0
-Placed p h = isGood h ≡ false → houseNumberOf h .position ≡ At p
+Placed p h = isGood h ≡ false → positionOf h ≡ At p
 
 good-placed : (p : ℕ) → Placed p Good
 good-placed p e = clash e
 
 window-placed : (f m p : ℕ) (s : Space) → Placed p (windowHouse f m p s)
 window-placed f m p s =
-    cond-elim (Placed p) (ltb (s .highest) (s .lowest)) (λ q e. refl)
-    (λ q. cond-elim (Placed p) (ltb (storeOf s f m) (s .offset + sizeOf s)) (λ q e. refl)
-    (λ q. cond-elim (Placed p) (not (s .«read_only») && (s .«in_flash» || eqb (s .number) 0xFF)) (λ q e. refl) (λ q. good-placed p)))
+    cond-elim (Placed p) (lowest-above f m s) (λ q e. refl)
+    (λ q. cond-elim (Placed p) (past-the-end f m s) (λ q e. refl)
+    (λ q. cond-elim (Placed p) (wrongly-writable f m s) (λ q e. refl) (λ q. good-placed p)))
 
 space-placed : (f m : ℕ) (earlier : List ℕ) (s : Space) → Placed (length earlier) (spaceHouse f m earlier s)
 space-placed f m earlier s =
@@ -105,7 +109,7 @@ module _ (f m : ℕ) where
       )
 
   -- a house number with a position is that of such a space
-  search-says : (earlier : List ℕ) (l : List Space) (i : ℕ) (h : HouseNumber) → spacesHouse f m earlier l ≡ h → houseNumberOf h .position ≡ At i
+  search-says : (earlier : List ℕ) (l : List Space) (i : ℕ) (h : HouseNumber) → spacesHouse f m earlier l ≡ h → positionOf h ≡ At i
       → (k : ℕ) × (i ≡ length earlier + k) × Behind f m earlier l k h
   unfolding spacesHouse numbersOf
   search-says earlier [] i h e p = not-nowhere (good-nowhere (sym e)) p
@@ -116,7 +120,7 @@ module _ (f m : ℕ) where
       (suc (r .0), omega (arith, r .1, length-append earlier (s .number ∷ [])), longer (is-good _ q) (r .2)))
       (λ q.
       let first : spaceHouse f m earlier s ≡ h = sym (cond-false _ _ _ q) ∙ e in
-      let at = same-index (sym (space-placed f m earlier s q) ∙ ap (λ (h : HouseNumber). houseNumberOf h .position) first ∙ p) in
+      let at = same-index (sym (space-placed f m earlier s q) ∙ ap positionOf first ∙ p) in
       (0, omega (arith, at), record { inside = omega arith; before = refl; here = ap (λ (numbers : List ℕ). spaceHouse f m numbers s) (append-nil earlier) ∙ first }))
 
   -- and such a space is found
@@ -137,7 +141,7 @@ limits-other : (alias n k f m : ℕ) → n ≤ 16 → limitsHouse alias k f m �
 limits-other alias n k f m h g = cond-false (ltb 16 n) B11 _ (le-ltb 16 n h) ∙ cond-not (ltb 16 k) {a = B11} g (bad refl) .1
 
 module _ (alias f m : ℕ) (l : List Space) where
-  description-says : (h : HouseNumber) → descriptionHouse alias l f m ≡ h → (i : ℕ) → houseNumberOf h .position ≡ At i → RefusedAt alias f m l i h
+  description-says : (h : HouseNumber) → descriptionHouse alias l f m ≡ h → (i : ℕ) → positionOf h ≡ At i → RefusedAt alias f m l i h
   unfolding descriptionHouse numbersOf
   description-says h e i p =
       by-test (isGood (limitsHouse alias (length l) f m))
@@ -153,7 +157,7 @@ module _ (alias f m : ℕ) (l : List Space) where
         before = rw (limits-other alias (length (take (r .0) l)) (length l) f m fewer g) (r .2 .before);
         here = r .2 .here;
       }))
-      (λ q. not-nowhere (limits-nowhere alias (length l) f m) (ap (λ (h : HouseNumber). houseNumberOf h .position) (sym (cond-false _ _ _ q) ∙ e) ∙ p))
+      (λ q. not-nowhere (limits-nowhere alias (length l) f m) (ap positionOf (sym (cond-false _ _ _ q) ∙ e) ∙ p))
 
   description-finds : (i : ℕ) (h : HouseNumber) → RefusedAt alias f m l i h → isGood h ≡ false → descriptionHouse alias l f m ≡ h
   unfolding descriptionHouse numbersOf
@@ -163,11 +167,11 @@ module _ (alias f m : ℕ) (l : List Space) where
       (search-finds f m [] l i h (record { inside = r .inside; before = g .1; here = r .here }) q)
 
   -- what is tested behind the description has no position of its own
-  pub positioned : (other : HouseNumber) → houseNumberOf other .position ≡ Nowhere → Positioned alias f m l (orElse (descriptionHouse alias l f m) other)
+  pub positioned : (other : HouseNumber) → Unplaced other → Positioned alias f m l (orElse (descriptionHouse alias l f m) other)
   positioned other nowhere =
       record {
         says = λ i p. by-test (isGood (descriptionHouse alias l f m))
-            (λ q. not-nowhere (ap (λ (h : HouseNumber). houseNumberOf h .position) (cond-true _ _ _ q) ∙ nowhere) p)
+            (λ q. not-nowhere (ap positionOf (cond-true _ _ _ q) ∙ nowhere) p)
             (λ q. description-says _ (sym (cond-false _ _ _ q)) i p);
         found = λ i h r q.
             let e = description-finds i h r q in

@@ -139,7 +139,7 @@ pub fn check_window(space: Space, position: u8, flash_len: usize, memory_len: us
     HouseNumber::Good
 }
 
-// Whether none of these refuses the space, at whatever position.
+// Whether none of these refuses the space, at whatever position: the one that is handed on plays no part.
 pub fn is_window_good(space: Space, flash_len: usize, memory_len: usize) -> bool
     ensures { λ r. ⌜ ((position : ℕ) → r ≡ isGood (windowHouse «flash_len» «memory_len» position space)) ⌝ }
 {

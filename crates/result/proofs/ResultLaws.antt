@@ -1,10 +1,9 @@
 -- Laws of a call's numbers: those of a call have room in their bytes, and memory changed nowhere but in the range that they name.
 -- Assumes nothing.
-use Prim.Native.Nat.{ℕ, _+_, _≤_, min}
+use Prim.Native.Nat.{ℕ, _≤_, min}
 use mathlib.Core.Path.{_≡_, refl, _∙_}
 use mathlib.Core.List.{List}
 use native.Mathlib.Omega.{arith}
-use lib.ListN.{length, take, drop}
 use Rattle.storing.specs.Storing.{OnlyWithin}
 use Rattle.handling.specs.Access.{Changes}
 use Rattle.answer.specs.Answers.{SmallAnswer}

@@ -5,7 +5,7 @@ pub fn print(text: &[u8]) {
     io::write_all(STDOUT_FILENO, text);
 }
 
-pub fn digit(value: u8) -> u8 {
+fn digit(value: u8) -> u8 {
     let low = value % 16;
     if low < 10 {
         return 48 + low;
