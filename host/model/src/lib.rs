@@ -1,5 +1,6 @@
 //! Holds the parts of the library: the board's side of the OpenLCB memory configuration protocol
-//! as document 01 fixes it, with change request C-11 of document 02.
+//! as document 01 fixes it, and the tool's half, the writer of commands and the readers of what
+//! comes back; with change requests C-11 and C-12 of document 02.
 //!
 //! Document 01 decides; source documents 000 (Memory Configuration), 002 (Message Network) and
 //! 004 (Datagram Transport) stand behind it. Nothing here allocates while a frame is handled:
@@ -20,6 +21,7 @@ mod program;
 mod reception;
 mod sending;
 mod splitting;
+mod tool;
 
 pub use cutting::{cut, cut_into, Frames, MOST_FRAMES};
 pub use datagram::{code, handle_datagram, Answer, Lock, LONGEST_DATAGRAM};
@@ -35,3 +37,7 @@ pub use program::{run, session, Program};
 pub use reception::{Reception, Unfinished, MOST_UNFINISHED};
 pub use sending::{frames_to_send, MOST_SENT};
 pub use splitting::{Line, Splitter};
+pub use tool::{
+    read_received_ok, read_rejected, read_reply, write_command, NamedSpace, ReceivedOk,
+    RejectedContent, Reply, Request, ToolRefusal,
+};

@@ -1,4 +1,5 @@
-//! Holds what several test files share: hex text, a board with everything in it, and its answers.
+//! Holds what several test files share: hex text, a board with everything in it, its answers, and
+//! numbers that look random.
 #![allow(dead_code)]
 
 use model::{
@@ -206,4 +207,28 @@ pub fn middle(source: u32) -> u32 {
 
 pub fn last(source: u32) -> u32 {
     0x1D22_B000 | source
+}
+
+/// A small generator of numbers, so that each run is the same.
+pub struct Numbers(pub u64);
+
+impl Numbers {
+    pub fn below(&mut self, bound: u32) -> u32 {
+        self.0 ^= self.0 << 13;
+        self.0 ^= self.0 >> 7;
+        self.0 ^= self.0 << 17;
+        ((self.0 >> 32) as u32) % bound
+    }
+
+    pub fn byte(&mut self) -> u8 {
+        self.below(256) as u8
+    }
+
+    pub fn bytes(&mut self, count: usize) -> Vec<u8> {
+        (0..count).map(|_| self.byte()).collect()
+    }
+
+    pub fn one_of<T: Copy>(&mut self, choices: &[T]) -> T {
+        choices[self.below(choices.len() as u32) as usize]
+    }
 }

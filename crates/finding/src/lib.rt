@@ -1,0 +1,408 @@
+// What the tool's writer and readers give as numbers, for a caller in C. A number that a case does not name is 0, and what may be missing says
+// whether it is given.
+use fields::Form;
+use receipt::ReceivedIn;
+use receipt::RejectionIn;
+use replies::AddressIn;
+use replies::LowestIn;
+use replies::ReplyIn;
+use replies::TextIn;
+use writing::Written;
+ghost use mathlib.Core.Path.{_≡_};
+ghost use mathlib.Core.Bool.{true, false};
+ghost use Rattle.finding.specs.Numbers.{composedOf, acknowledgedOf, noBytes, bytesAt, rejectionOf, formNumber, textBytes, noOptions, noInformation, accessFields, aboutFields, optionsOf, nameBytes, informationOf, fieldsOf, ToldApart};
+
+// A command that was written: the number of W1 or W2 and no length, or 0 and the command's length.
+#[repr(C)]
+pub struct Composed {
+    pub refusal: u32,
+    pub length: usize,
+}
+
+// Received OK: 3 for W3, or 0 and the fields.
+#[repr(C)]
+pub struct Acknowledged {
+    pub refusal: u32,
+    pub pending: bool,
+    pub timeout: u8,
+}
+
+// Bytes in what was lent: whether there are such bytes, where they start, and how many they are.
+#[repr(C)]
+pub struct Bytes {
+    pub given: bool,
+    pub start: usize,
+    pub length: usize,
+}
+
+// Rejected: 3 for W3, or 0, the code and further bytes.
+#[repr(C)]
+pub struct RejectionFields {
+    pub refusal: u32,
+    pub code: u16,
+    pub further: Bytes,
+}
+
+// The options.
+#[repr(C)]
+pub struct OptionsFields {
+    pub commands: u16,
+    pub write_lengths: u8,
+    pub highest_space: u8,
+    pub has_lowest_space: bool,
+    pub lowest_space: u8,
+}
+
+// The information on a space.
+#[repr(C)]
+pub struct InformationFields {
+    pub highest_address: u32,
+    pub lowest_address: u32,
+    pub flags: u8,
+    pub present: bool,
+    pub has_lowest_address: bool,
+}
+
+// A reply. The kinds: 0 none, which is W3, 1 the bytes read, 2 a read that failed, 3 a write that is done, 4 a write that failed, 5 the options,
+// 6 the information on a space, 7 who holds the lock. `bytes` is where the data, the text or the lock's ID stand. `form` says how the space is
+// named: 0 by byte 6, and 1, 2, 3 by the low two bits of the command.
+#[repr(C)]
+pub struct ReplyFields {
+    pub kind: u32,
+    pub address: u32,
+    pub code: u16,
+    pub space: u8,
+    pub form: u8,
+    pub options: OptionsFields,
+    pub information: InformationFields,
+    pub bytes: Bytes,
+}
+
+pub fn of_written(written: Written) -> Composed
+    ensures { λ r. ⌜ r ≡ composedOf written ⌝ }
+{
+    match written {
+        Written::OutOfRange => Composed {
+            refusal: 1,
+            length: 0,
+        },
+        Written::NoRoom => Composed {
+            refusal: 2,
+            length: 0,
+        },
+        Written::Length(length) => Composed {
+            refusal: 0,
+            length: length,
+        },
+    }
+}
+
+pub fn of_received(received: ReceivedIn) -> Acknowledged
+    ensures { λ r. ⌜ r ≡ acknowledgedOf received ⌝ }
+{
+    match received {
+        ReceivedIn::NotReceived => Acknowledged {
+            refusal: 3,
+            pending: false,
+            timeout: 0,
+        },
+        ReceivedIn::Received { pending, timeout } => Acknowledged {
+            refusal: 0,
+            pending: pending,
+            timeout: timeout,
+        },
+    }
+}
+
+fn no_bytes() -> Bytes
+    ensures { λ r. ⌜ r ≡ noBytes ⌝ }
+{
+    Bytes {
+        given: false,
+        start: 0,
+        length: 0,
+    }
+}
+
+fn bytes_at(start: usize, length: usize) -> Bytes
+    ensures { λ r. ⌜ r ≡ bytesAt start length ⌝ }
+{
+    Bytes {
+        given: true,
+        start: start,
+        length: length,
+    }
+}
+
+pub fn of_rejection(rejection: RejectionIn) -> RejectionFields
+    ensures { λ r. ⌜ r ≡ rejectionOf rejection ⌝ }
+{
+    match rejection {
+        RejectionIn::NotRejection => {
+            return RejectionFields {
+                refusal: 3,
+                code: 0,
+                further: no_bytes(),
+            };
+        }
+        RejectionIn::Rejection {
+            code,
+            start,
+            length,
+        } => {
+            return RejectionFields {
+                refusal: 0,
+                code: code,
+                further: bytes_at(start, length),
+            };
+        }
+    }
+}
+
+// How a space is named.
+fn form_number(form: Form) -> u8
+    ensures { λ r. ⌜ r ≡ formNumber form ⌝ }
+{
+    match form {
+        Form::NoSpace => 4,
+        Form::Byte6 => 0,
+        Form::Fd => 1,
+        Form::Fe => 2,
+        Form::Ff => 3,
+    }
+}
+
+fn text_bytes(text: TextIn) -> Bytes
+    ensures { λ r. ⌜ r ≡ textBytes text ⌝ }
+{
+    match text {
+        TextIn::NoText => {
+            return no_bytes();
+        }
+        TextIn::TextAt { start, length } => {
+            return bytes_at(start, length);
+        }
+    }
+}
+
+fn no_options() -> OptionsFields
+    ensures { λ r. ⌜ r ≡ noOptions ⌝ }
+{
+    OptionsFields {
+        commands: 0,
+        write_lengths: 0,
+        highest_space: 0,
+        has_lowest_space: false,
+        lowest_space: 0,
+    }
+}
+
+fn no_information() -> InformationFields
+    ensures { λ r. ⌜ r ≡ noInformation ⌝ }
+{
+    InformationFields {
+        highest_address: 0,
+        lowest_address: 0,
+        flags: 0,
+        present: false,
+        has_lowest_address: false,
+    }
+}
+
+// The reply to a read or a write; of kind 0, none.
+fn access(kind: u32, form: u8, space: u8, address: u32, code: u16, bytes: Bytes) -> ReplyFields
+    ensures { λ r. ⌜ r ≡ accessFields kind form space address code bytes ⌝ }
+{
+    ReplyFields {
+        kind: kind,
+        address: address,
+        code: code,
+        space: space,
+        form: form,
+        options: no_options(),
+        information: no_information(),
+        bytes: bytes,
+    }
+}
+
+// The reply to any other command.
+fn about(
+    kind: u32,
+    space: u8,
+    options: OptionsFields,
+    information: InformationFields,
+    bytes: Bytes,
+) -> ReplyFields
+    ensures { λ r. ⌜ r ≡ aboutFields kind space options information bytes ⌝ }
+{
+    ReplyFields {
+        kind: kind,
+        address: 0,
+        code: 0,
+        space: space,
+        form: 0,
+        options: options,
+        information: information,
+        bytes: bytes,
+    }
+}
+
+fn options(commands: u16, lengths: u8, highest: u8, low: LowestIn) -> OptionsFields
+    ensures { λ r. ⌜ r ≡ optionsOf commands lengths highest low ⌝ }
+{
+    match low {
+        LowestIn::NoLowest => OptionsFields {
+            commands: commands,
+            write_lengths: lengths,
+            highest_space: highest,
+            has_lowest_space: false,
+            lowest_space: 0,
+        },
+        LowestIn::LowestSpace { space, name: _ } => OptionsFields {
+            commands: commands,
+            write_lengths: lengths,
+            highest_space: highest,
+            has_lowest_space: true,
+            lowest_space: space,
+        },
+    }
+}
+
+fn name_bytes(low: LowestIn) -> Bytes
+    ensures { λ r. ⌜ r ≡ nameBytes low ⌝ }
+{
+    match low {
+        LowestIn::NoLowest => {
+            return no_bytes();
+        }
+        LowestIn::LowestSpace { space: _, name } => {
+            return text_bytes(name);
+        }
+    }
+}
+
+fn information(present: bool, highest: u32, flags: u8, low: AddressIn) -> InformationFields
+    ensures { λ r. ⌜ r ≡ informationOf present highest flags low ⌝ }
+{
+    match low {
+        AddressIn::NoAddress => InformationFields {
+            highest_address: highest,
+            lowest_address: 0,
+            flags: flags,
+            present: present,
+            has_lowest_address: false,
+        },
+        AddressIn::AddressIs(lowest) => InformationFields {
+            highest_address: highest,
+            lowest_address: lowest,
+            flags: flags,
+            present: present,
+            has_lowest_address: true,
+        },
+    }
+}
+
+pub fn of_reply(reply: ReplyIn) -> ReplyFields
+    ensures fields { λ r. ⌜ r ≡ fieldsOf reply ⌝ }
+    ensures apart { λ _. ⌜ ToldApart ⌝ }
+{
+    match reply {
+        ReplyIn::NoReply => {
+            return access(0, 0, 0, 0, 0, no_bytes());
+        }
+        ReplyIn::Read {
+            form,
+            space,
+            address,
+            start,
+            length,
+        } => {
+            return access(
+                1,
+                form_number(form),
+                space,
+                address,
+                0,
+                bytes_at(start, length),
+            );
+        }
+        ReplyIn::ReadFailure {
+            form,
+            space,
+            address,
+            code,
+            message,
+        } => {
+            return access(
+                2,
+                form_number(form),
+                space,
+                address,
+                code,
+                text_bytes(message),
+            );
+        }
+        ReplyIn::Written {
+            form,
+            space,
+            address,
+        } => {
+            return access(3, form_number(form), space, address, 0, no_bytes());
+        }
+        ReplyIn::WriteFailure {
+            form,
+            space,
+            address,
+            code,
+            message,
+        } => {
+            return access(
+                4,
+                form_number(form),
+                space,
+                address,
+                code,
+                text_bytes(message),
+            );
+        }
+        ReplyIn::Options {
+            commands,
+            lengths,
+            highest,
+            low,
+        } => {
+            return about(
+                5,
+                0,
+                options(commands, lengths, highest, low),
+                no_information(),
+                name_bytes(low),
+            );
+        }
+        ReplyIn::Information {
+            present,
+            space,
+            highest,
+            flags,
+            low,
+            description,
+        } => {
+            return about(
+                6,
+                space,
+                no_options(),
+                information(present, highest, flags, low),
+                text_bytes(description),
+            );
+        }
+        ReplyIn::Locked { start, length } => {
+            return about(
+                7,
+                0,
+                no_options(),
+                no_information(),
+                bytes_at(start, length),
+            );
+        }
+    }
+}

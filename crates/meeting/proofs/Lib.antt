@@ -1,0 +1,3 @@
+pub mod Examples
+pub mod NamingLaws
+pub mod MeetingLaws

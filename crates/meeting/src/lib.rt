@@ -1,0 +1,1 @@
+// Where the tool's half and the board's meet: definitions and their theorem.

@@ -1,0 +1,111 @@
+// The replies to reads and writes: those that have an address.
+use replies::ReplyIn;
+use replies::TextIn;
+ghost use mathlib.Core.Path.{_≡_};
+ghost use mathlib.Core.Bool.{true};
+ghost use Rattle.replies.specs.Finding.{failureFits, codeIn, messageIn, findRead, findReadFailure, findWritten, findWriteFailure};
+
+// The bytes read: 1 to 64.
+pub fn read(datagram: &[u8]) -> ReplyIn
+    ensures { λ r. ⌜ r ≡ findRead (now (datagram .entry)) ⌝ }
+{
+    let form = fields::form_in(datagram);
+    let head = fields::head_length(form);
+    let length = datagram.len();
+    if length <= head {
+        return ReplyIn::NoReply;
+    }
+    if 64 < length - head {
+        return ReplyIn::NoReply;
+    }
+    let target = view::target_of(datagram);
+    ReplyIn::Read {
+        form: form,
+        space: target.space,
+        address: target.address,
+        start: head,
+        length: length - head,
+    }
+}
+
+// A write that is done, with nothing behind.
+pub fn written(datagram: &[u8]) -> ReplyIn
+    ensures { λ r. ⌜ r ≡ findWritten (now (datagram .entry)) ⌝ }
+{
+    let form = fields::form_in(datagram);
+    if datagram.len() != fields::head_length(form) {
+        return ReplyIn::NoReply;
+    }
+    let target = view::target_of(datagram);
+    ReplyIn::Written {
+        form: form,
+        space: target.space,
+        address: target.address,
+    }
+}
+
+// Whether a code stands behind the head, and behind it a message of at most 63 bytes, or none.
+fn failure_fits(datagram: &[u8]) -> bool
+    ensures { λ r. ⌜ r ≡ failureFits (now (datagram .entry)) ⌝ }
+{
+    let start = fields::head_length(fields::form_in(datagram)) + 2;
+    let length = datagram.len();
+    if length < start {
+        return false;
+    }
+    if 63 < length - start {
+        return false;
+    }
+    texts::is_text_from(datagram, start)
+}
+
+// The code of a failure, most significant byte first.
+fn code(datagram: &[u8]) -> u16
+    requires { ⌜ failureFits (now datagram) ≡ true ⌝ }
+    ensures { λ r. ⌜ r ≡ codeIn (now (datagram .entry)) ⌝ }
+{
+    let head = fields::head_length(fields::form_in(datagram));
+    replies::two_bytes(datagram[head], datagram[head + 1])
+}
+
+// The message behind the code.
+fn message(datagram: &[u8]) -> TextIn
+    ensures { λ r. ⌜ r ≡ messageIn (now (datagram .entry)) ⌝ }
+{
+    let start = fields::head_length(fields::form_in(datagram)) + 2;
+    replies::text_from(start, datagram.len())
+}
+
+// A read that failed.
+pub fn read_failure(datagram: &[u8]) -> ReplyIn
+    ensures { λ r. ⌜ r ≡ findReadFailure (now (datagram .entry)) ⌝ }
+{
+    if !failure_fits(datagram) {
+        return ReplyIn::NoReply;
+    }
+    let target = view::target_of(datagram);
+    ReplyIn::ReadFailure {
+        form: fields::form_in(datagram),
+        space: target.space,
+        address: target.address,
+        code: code(datagram),
+        message: message(datagram),
+    }
+}
+
+// A write or a masked write that failed.
+pub fn write_failure(datagram: &[u8]) -> ReplyIn
+    ensures { λ r. ⌜ r ≡ findWriteFailure (now (datagram .entry)) ⌝ }
+{
+    if !failure_fits(datagram) {
+        return ReplyIn::NoReply;
+    }
+    let target = view::target_of(datagram);
+    ReplyIn::WriteFailure {
+        form: fields::form_in(datagram),
+        space: target.space,
+        address: target.address,
+        code: code(datagram),
+        message: message(datagram),
+    }
+}

@@ -1,0 +1,25 @@
+-- `read_rejected` meets its contract.
+-- Assumes nothing.
+use mathlib.Core.Path.{sym}
+use native.Mathlib.Omega.{arith}
+use lib.ListN.{length}
+use borrow.Author.Needs.{needs}
+use borrow.Author.Tests.{le-leb, lt-leb}
+use Rattle.receipt.specs.Receipt.{rejectionIn}
+use Rattle.receipt.proofs.read_rejected.Statement.{statement}
+use Rattle.receipt.proofs.read_rejected.Tie as tie
+
+returns : tie.Need-returns
+unfolding rejectionIn
+returns c = rw (lt-leb (length (c .before .before .args .content .now)) 66 (c .if1 .taken))
+
+returns-2 : tie.Need-returns-2
+unfolding rejectionIn
+returns-2 c =
+    let content = c .before .before .before .before .before .before .args .content .now in
+    rw (c .further .ensures, c .before .two-bytes .ensures, c .before .before .byte-in2 .ensures, c .before .before .before .byte-in .ensures, le-leb (length content) 66 (omega (arith, c .before .before .before .before .if1 .left)))
+
+pub read-rejected-spec : {M : Type 1} → statement M
+read-rejected-spec =
+    tie.close
+    (tie.spec returns (λ c κs. search needs) (λ c κs. search needs) (λ c κs. search needs) (λ c κs. search needs) returns-2)

@@ -1,0 +1,64 @@
+// The tool's readers of Received OK and Rejected: every field of their contents, or none, which is W3.
+ghost use mathlib.Core.Path.{_≡_};
+ghost use Prim.Native.Nat.{_-_};
+ghost use lib.ListN.{length};
+ghost use Rattle.receipt.specs.Receipt.{byteIn, receivedIn, rejectionIn};
+
+// Received OK: whether a reply is to follow, and the timeout value, 0 to 15.
+pub enum ReceivedIn {
+    NotReceived,
+    Received { pending: bool, timeout: u8 },
+}
+
+// Rejected: the code, and where further bytes start and how many they are.
+pub enum RejectionIn {
+    NotRejection,
+    Rejection {
+        code: u16,
+        start: usize,
+        length: usize,
+    },
+}
+
+// A byte of a content, 0 where it is missing.
+fn byte_in(content: &[u8], i: usize) -> u8
+    ensures { λ r. ⌜ r ≡ byteIn (now (content .entry)) i ⌝ }
+{
+    if i < content.len() { content[i] } else { 0 }
+}
+
+// Reads the content of a Received OK.
+pub fn read_received_ok(content: &[u8]) -> ReceivedIn
+    ensures { λ r. ⌜ r ≡ receivedIn (now (content .entry)) ⌝ }
+{
+    if 1 < content.len() {
+        return ReceivedIn::NotReceived;
+    }
+    let flags = byte_in(content, 0);
+    ReceivedIn::Received {
+        pending: 0x80 <= flags,
+        timeout: flags % 16,
+    }
+}
+
+// How many bytes stand behind the code.
+fn further(content: &[u8]) -> usize
+    ensures { λ r. ⌜ r ≡ length (now (content .entry)) - 2 ⌝ }
+{
+    let length = content.len();
+    if length < 2 { 0 } else { length - 2 }
+}
+
+// Reads the content of a Rejected.
+pub fn read_rejected(content: &[u8]) -> RejectionIn
+    ensures { λ r. ⌜ r ≡ rejectionIn (now (content .entry)) ⌝ }
+{
+    if 66 < content.len() {
+        return RejectionIn::NotRejection;
+    }
+    RejectionIn::Rejection {
+        code: replies::two_bytes(byte_in(content, 0), byte_in(content, 1)),
+        start: 2,
+        length: further(content),
+    }
+}

@@ -1,0 +1,23 @@
+-- The numbers of a command that was to be written.
+-- Assumes nothing.
+use Prim.Native.Nat.{ℕ, _<_}
+use mathlib.Core.Path.{_≡_, ap, _∙_}
+use mathlib.Core.Bool.{Bool, true, false, _&&_}
+use mathlib.Core.List.{List}
+use native.Mathlib.Omega.{arith}
+use borrow.Author.Tests.{le-leb, lt-leb}
+use Rattle.fields.specs.Commands.{Request, read}
+use Rattle.writing.specs.Writing.{inRange, Writes}
+use Rattle.writing.specs.declared.Written.{Written}
+use Rattle.finding.specs.Numbers.{composedOf}
+use Rattle.finding.specs.declared.Composed.{Composed}
+use Rattle.tool.specs.Composing.{Composes}
+
+pub composes : {whole : Bool} {q : Request} {w : Written} {r : Composed} {before after : List ℕ} → Writes whole q w before after → r ≡ composedOf w →
+    Composes whole q r before after
+composes p e = record { answer = e ∙ ap composedOf (p .answer); buffer = p .buffer; oneForm = p .oneForm; allInRange = p .allInRange }
+
+-- a count that is no byte's, or over 64
+pub count-over : (space address count : ℕ) → 64 < count → (true && inRange (read space address count)) ≡ false
+unfolding inRange
+count-over space address count h = rw (le-leb 1 count (omega arith), lt-leb count 64 h)

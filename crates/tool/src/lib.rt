@@ -1,0 +1,204 @@
+// The edge of the tool's half to C: a command written for each request, the readers of what a board answers, and the frames of its replies joined.
+// Everything is lent: a slice is a pointer and then a length, an array of a fixed length is a pointer.
+use finding::Acknowledged;
+use finding::Composed;
+use finding::RejectionFields;
+use finding::ReplyFields;
+use outcome::Outcome;
+use writing::Written;
+ghost use mathlib.Core.Path.{_≡_};
+ghost use mathlib.Core.Bool.{true};
+ghost use Prim.Native.Nat.{_%_};
+ghost use lib.Dec.{eqb};
+ghost use lib.ListN.{length};
+ghost use Rattle.frame.specs.Frame.{canFrame};
+ghost use Rattle.fields.specs.Commands.{read, write, writeMasked, options, information, reserve, updateComplete, pairsOf};
+ghost use Rattle.reception.specs.Reception.{receive};
+ghost use Rattle.reception.specs.PlaceBytes.{stateIn};
+ghost use Rattle.outcome.specs.Joins.{Joins};
+ghost use Rattle.replies.specs.Finding.{findReply, Readings};
+ghost use Rattle.receipt.specs.Receipt.{receivedIn, rejectionIn};
+ghost use Rattle.finding.specs.Numbers.{acknowledgedOf, rejectionOf, fieldsOf, ToldApart};
+ghost use Rattle.meeting.specs.Meeting.{HalvesMeet};
+ghost use Rattle.tool.specs.Composing.{Composes};
+ghost use Rattle.tool.specs.Joining.{joinedOf, outcomeIs};
+
+// The version of this edge, major in the upper 16 bits and minor in the lower: a header of the same major and of no greater minor fits.
+const VERSION: u32 = 0x00010000;
+
+// What comes of joining a frame. The kinds: 0 the places are not sound, 1 ignored, 2 joined, 3 refused with `code`, 4 a datagram that is the
+// frame's data, 5 a datagram that is the part of the pool from `start` up to `end`. A number that its kind does not name is 0.
+#[repr(C)]
+pub struct JoinedFields {
+    pub kind: u32,
+    pub code: u16,
+    pub start: usize,
+    pub end: usize,
+}
+
+#[no_mangle]
+pub extern "C" fn bujorelm_tool_version() -> u32
+    ensures { λ r. ⌜ r ≡ 0x00010000 ⌝ }
+{
+    VERSION
+}
+
+// Writes the command for a read of `count` bytes. The count comes as a wide number: one over 255 is out of range, and not its low byte.
+#[no_mangle]
+pub extern "C" fn bujorelm_compose_read(
+    space: u8,
+    address: u32,
+    count: usize,
+    buffer: &mut [u8],
+) -> Composed
+    ensures { λ r. ⌜ Composes true (read space address count) r (now (buffer .entry)) (now (buffer .exit)) ⌝ }
+{
+    if 64 < count {
+        return finding::of_written(Written::OutOfRange);
+    }
+    finding::of_written(writer::write_read(space, address, count as u8, buffer))
+}
+
+// Writes the command for a write of bytes.
+#[no_mangle]
+pub extern "C" fn bujorelm_compose_write(
+    space: u8,
+    address: u32,
+    bytes: &[u8],
+    buffer: &mut [u8],
+) -> Composed
+    ensures { λ r. ⌜ Composes true (write space address (now (bytes .entry))) r (now (buffer .entry)) (now (buffer .exit)) ⌝ }
+{
+    finding::of_written(writer::write_write(space, address, bytes, buffer))
+}
+
+// Writes the command for a masked write of pairs, each a mask and then its data.
+#[no_mangle]
+pub extern "C" fn bujorelm_compose_masked_write(
+    space: u8,
+    address: u32,
+    pairs: &[u8],
+    buffer: &mut [u8],
+) -> Composed
+    ensures { λ r. ⌜ Composes (eqb (length (now (pairs .entry)) % 2) 0) (writeMasked space address (pairsOf (now (pairs .entry)))) r (now (buffer .entry)) (now (buffer .exit)) ⌝ }
+{
+    finding::of_written(writer::write_masked(space, address, pairs, buffer))
+}
+
+// Writes the command that asks for the options.
+#[no_mangle]
+pub extern "C" fn bujorelm_compose_options(buffer: &mut [u8]) -> Composed
+    ensures { λ r. ⌜ Composes true options r (now (buffer .entry)) (now (buffer .exit)) ⌝ }
+{
+    finding::of_written(writer::write_options(buffer))
+}
+
+// Writes the command that asks for the information on a space.
+#[no_mangle]
+pub extern "C" fn bujorelm_compose_information(space: u8, buffer: &mut [u8]) -> Composed
+    ensures { λ r. ⌜ Composes true (information space) r (now (buffer .entry)) (now (buffer .exit)) ⌝ }
+{
+    finding::of_written(writer::write_information(space, buffer))
+}
+
+// Writes the command that locks or releases a board.
+#[no_mangle]
+pub extern "C" fn bujorelm_compose_lock(id: &[u8], buffer: &mut [u8]) -> Composed
+    ensures { λ r. ⌜ Composes true (reserve (now (id .entry))) r (now (buffer .entry)) (now (buffer .exit)) ⌝ }
+{
+    finding::of_written(writer::write_lock(id, buffer))
+}
+
+// Writes the command Update Complete.
+#[no_mangle]
+pub extern "C" fn bujorelm_compose_update_complete(buffer: &mut [u8]) -> Composed
+    ensures { λ r. ⌜ Composes true updateComplete r (now (buffer .entry)) (now (buffer .exit)) ⌝ }
+{
+    finding::of_written(writer::write_update_complete(buffer))
+}
+
+// Reads the content of a Received OK, which is what stands behind the aliases.
+#[no_mangle]
+pub extern "C" fn bujorelm_read_received_ok(content: &[u8]) -> Acknowledged
+    ensures { λ r. ⌜ r ≡ acknowledgedOf (receivedIn (now (content .entry))) ⌝ }
+{
+    finding::of_received(receipt::read_received_ok(content))
+}
+
+// Reads the content of a Rejected.
+#[no_mangle]
+pub extern "C" fn bujorelm_read_rejected(content: &[u8]) -> RejectionFields
+    ensures { λ r. ⌜ r ≡ rejectionOf (rejectionIn (now (content .entry))) ⌝ }
+{
+    finding::of_rejection(receipt::read_rejected(content))
+}
+
+// Reads a reply datagram. What is found is what the language of replies says; its numbers tell apart what is missing and what is 0; and whatever the
+// board answers is read as the board put it in.
+#[no_mangle]
+pub extern "C" fn bujorelm_read_reply(datagram: &[u8]) -> ReplyFields
+    ensures fields { λ r. ⌜ r ≡ fieldsOf (findReply (now (datagram .entry))) ⌝ }
+    ensures readings { λ _. ⌜ Readings ⌝ }
+    ensures apart { λ _. ⌜ ToldApart ⌝ }
+    ensures meets { λ _. ⌜ HalvesMeet ⌝ }
+{
+    finding::of_reply(reader::read_reply(datagram))
+}
+
+fn of_outcome(outcome: Outcome) -> JoinedFields
+    ensures { λ r. ⌜ (r ≡ joinedOf outcome) × (outcomeIs r ≡ outcome) ⌝ }
+{
+    match outcome {
+        Outcome::BadState => JoinedFields {
+            kind: 0,
+            code: 0,
+            start: 0,
+            end: 0,
+        },
+        Outcome::Ignored => JoinedFields {
+            kind: 1,
+            code: 0,
+            start: 0,
+            end: 0,
+        },
+        Outcome::NoAnswer => JoinedFields {
+            kind: 2,
+            code: 0,
+            start: 0,
+            end: 0,
+        },
+        Outcome::Refuse(code) => JoinedFields {
+            kind: 3,
+            code: code,
+            start: 0,
+            end: 0,
+        },
+        Outcome::InFrame => JoinedFields {
+            kind: 4,
+            code: 0,
+            start: 0,
+            end: 0,
+        },
+        Outcome::InPool(from, end) => JoinedFields {
+            kind: 5,
+            code: 0,
+            start: from,
+            end: end,
+        },
+    }
+}
+
+// Joins a frame that a board sent to the tool with that alias.
+#[no_mangle]
+pub extern "C" fn bujorelm_join(
+    alias: u16,
+    pool: &mut [u8; 576],
+    places: &mut [u8; 64],
+    header: u32,
+    payload: &[u8],
+) -> JoinedFields
+    ensures joins { λ r. ⌜ Joins (receive alias (stateIn (now (places .entry)) (now (pool .entry))) (canFrame header (now (payload .entry)))) (now (payload .entry)) (outcomeIs r) (now (places .entry)) (now (places .exit)) (now (pool .exit)) ⌝ }
+    ensures numbers { λ r. ⌜ r ≡ joinedOf (outcomeIs r) ⌝ }
+{
+    of_outcome(joining::join(pool, places, alias, header, payload))
+}
