@@ -1,15 +1,12 @@
 -- The numbers of a reply stand for it alone.
 -- Assumes nothing.
-use mathlib.Core.Path.{_≡_, refl, ap}
+use mathlib.Core.Path.{_≡_, refl}
 use Rattle.fields.specs.declared.Form.{Form}
 use Rattle.fields.specs.declared.Form.the-variants.{NoSpace, Byte6, Fd, Fe, Ff}
 use Rattle.replies.specs.declared.TextIn.{TextIn}
 use Rattle.replies.specs.declared.TextIn.the-variants.{NoText, TextAt}
-use Rattle.replies.specs.declared.LowestIn.{LowestIn}
 use Rattle.replies.specs.declared.LowestIn.the-variants.{NoLowest, LowestSpace}
-use Rattle.replies.specs.declared.AddressIn.{AddressIn}
 use Rattle.replies.specs.declared.AddressIn.the-variants.{NoAddress, AddressIs}
-use Rattle.replies.specs.declared.ReplyIn.{ReplyIn}
 use Rattle.replies.specs.declared.ReplyIn.the-variants as found
 use Rattle.finding.specs.Numbers.{formNumber, textBytes, fieldsOf, formIs, textIs, replyIs, ToldApart}
 

@@ -1,13 +1,13 @@
 -- The two halves meet.
 -- Assumes nothing.
-use Prim.Native.Nat.{ℕ, _+_, _-_, _*_, _/_, _%_, _≤_, _<_, min}
-use mathlib.Core.Path.{_≡_, refl, sym, ap, _∙_}
-use mathlib.Core.Bool.{Bool, true, false, cond}
+use Prim.Native.Nat.{ℕ, _+_, _-_, _*_, _/_, _%_, _≤_}
+use mathlib.Core.Path.{_≡_, refl, sym}
+use mathlib.Core.Bool.{true, false, cond}
 use mathlib.Core.List.{List, [], _∷_, _++_}
-use mathlib.Core.Option.{Option, none, some}
+use mathlib.Core.Option.{some}
 use native.Mathlib.Omega.{arith}
 use lib.Dec.{eqb}
-use lib.ListN.{length, take, drop, length-take, length-drop}
+use lib.ListN.{length, length-take, length-drop}
 use Rattle.buffer.proofs.Choice.{cond-elim, cond-map, by-test}
 use Rattle.buffer.specs.BigEndian.{twoBytes}
 use Rattle.frame.specs.declared.Frame.{Frame}
@@ -22,33 +22,32 @@ use Rattle.receipt.specs.declared.RejectionIn.the-variants.{Rejection}
 use Rattle.fields.specs.Commands as asked
 use Rattle.fields.specs.Commands.{Request}
 use Rattle.fields.specs.declared.Form.{Form}
-use Rattle.command.specs.Decoding.{request, decode}
+use Rattle.command.specs.Decoding.{request}
 use Rattle.command.proofs.Laws.{Allowed, allowed}
 use Rattle.table.specs.declared.Space.{Space}
-use Rattle.board.specs.Description.{findSpace, sizeOf, storeOf, windowOf, lowestNumber}
+use Rattle.board.specs.Description.{sizeOf, storeOf, lowestNumber}
 use Rattle.board.specs.declared.Found.{Found}
 use Rattle.board.specs.declared.Found.the-variants.{Described, Empty, Unknown}
 use Rattle.house.specs.HouseNumbers.{descriptionHouse}
 use Rattle.house.specs.declared.HouseNumber.the-variants.{Good}
-use Rattle.house.proofs.Laws.{Fine, FoundFine, good-find}
+use Rattle.house.proofs.Laws.{Fine, good-find}
 use Rattle.head.specs.Head.{replyHead}
 use Rattle.lock.specs.Lock.{testAndSet, lockAfter, allZero}
 use Rattle.inquiry.specs.Inquiry.{accessFlag, informationReply}
 use Rattle.reach.specs.Reach.{access}
 use Rattle.reach.specs.declared.Access.{Access}
 use Rattle.reach.specs.declared.Access.the-variants.{Fails, Reaches}
-use Rattle.reach.proofs.Laws.{Reached, reached}
-use Rattle.answer.specs.Answers.{Result, receivedOkReply, transportOf, rejectedCode}
+use Rattle.reach.proofs.Laws.{reached}
+use Rattle.answer.specs.Answers.{receivedOkReply, transportOf}
 use Rattle.answer.specs.declared.Answer.{Answer}
 use Rattle.answer.specs.declared.Answer.the-variants as answered
 use Rattle.handling.specs.Access.{bytesRead, readResult, writeResult}
 use Rattle.handling.specs.Handling.{Short}
-use Rattle.handling.specs.Performing.{Fixed, Contents, foundIn, perform, SixBytes}
+use Rattle.handling.specs.Performing.{Fixed, Contents, foundIn, perform}
 use Rattle.handling.proofs.HandlingLaws.{perform-short}
 use Rattle.replies.specs.ReplyForms.{noText, lowest, noAddress, lowestAddress, Reply, read, readFailure, writeFailure, options, information, locked, front, replyBytes, Names, bit1, Formed, IsReply}
-use Rattle.replies.specs.Finding.{findReply, replyOf}
 use Rattle.replies.proofs.CompleteLaws.{complete}
-use Rattle.meeting.specs.Meeting.{sentForRead, sentForWrite, sentForSpace, sent, ReadAs, RepliesRead, contentOf, Acknowledges, TransportRead, HalvesMeet}
+use Rattle.meeting.specs.Meeting.{sentForRead, sentForWrite, sentForSpace, sent, ReadAs, RepliesRead, contentOf, Acknowledges, HalvesMeet}
 use Rattle.meeting.proofs.NamingLaws.{Named, named}
 
 -- a reply of the language is read as it is

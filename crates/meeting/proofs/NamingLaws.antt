@@ -9,7 +9,7 @@ use lib.Dec.{leb, ltb, eqb}
 use lib.ListN.{length, getD, drop}
 use borrow.Author.Tests.{leb-true, lt-leb}
 use Rattle.buffer.proofs.Choice.{cond-elim, and-right}
-use Rattle.fields.specs.Commands.{Request, read, write, writeMasked, options, information, reserve, updateComplete, pairsOf, within, kindOf, lowForm, formOf, formIn, spaceOf, addressOf, restOf}
+use Rattle.fields.specs.Commands.{Request, read, write, writeMasked, options, information, reserve, updateComplete, pairsOf, within, kindOf, lowForm, formIn, spaceOf, addressOf, restOf}
 use Rattle.fields.specs.declared.Form.{Form}
 use Rattle.fields.specs.declared.Form.the-variants.{NoSpace, Byte6, Fd, Fe, Ff}
 use Rattle.limits.specs.Limits.{countFits, bytesFit, pairsFit}

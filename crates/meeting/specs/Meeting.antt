@@ -11,7 +11,6 @@ use Rattle.fields.specs.Commands as asked
 use Rattle.fields.specs.Commands.{Request}
 use Rattle.fields.specs.declared.Form.{Form}
 use Rattle.command.specs.Decoding.{request, decode}
-use Rattle.table.specs.declared.Space.{Space}
 use Rattle.board.specs.Description.{lowestNumber}
 use Rattle.board.specs.declared.Found.{Found}
 use Rattle.board.specs.declared.Found.the-variants.{Described, Empty, Unknown}

@@ -2,20 +2,19 @@
 -- Assumes nothing.
 use Prim.Native.Nat.{ℕ, _+_, _-_, _*_, _/_, _%_, _≤_}
 use mathlib.Core.Path.{_≡_, refl, sym, ap, _∙_}
-use mathlib.Core.Bool.{Bool, true, false, cond, _&&_}
-use mathlib.Core.List.{List, [], _∷_, _++_, append-nil}
-use mathlib.Core.Option.{Option, some}
+use mathlib.Core.Bool.{Bool, true, false}
+use mathlib.Core.List.{List, [], _++_, append-nil}
+use mathlib.Core.Option.{some}
 use native.Mathlib.Nat.{add-zero}
 use native.Mathlib.Omega.{arith}
-use lib.Dec.{leb, eqb}
 use lib.ListN.{length, getD, drop, length-drop}
 use lib.Seq.{take-all, getD-drop, drop-drop}
 use borrow.Author.Tests.{eq-eqb, ne-eqb, lt-ltb, le-leb}
 use Rattle.buffer.specs.BigEndian.{numberOf, twoBytes}
-use Rattle.fields.specs.Commands.{formBits, formOf, formIn, headLength}
+use Rattle.fields.specs.Commands.{formOf, formIn, headLength}
 use Rattle.fields.specs.declared.Form.{Form}
-use Rattle.replies.specs.ReplyForms.{Text, textBytes, Lowest, noLowest, lowest, LowestAddress, noAddress, lowestAddress, lowestBytes, addressBytes, Reply, read, readFailure, written, writeFailure, options, information, locked, front, replyBytes, Names, Ended, EndedBehind, bit1, given, Formed, IsReply}
-use Rattle.replies.specs.Finding.{isText, replyKind, headIn, findRead, findWritten, codeIn, failureFits, messageIn, findReadFailure, findWriteFailure, findOptions, findInformation, findLocked, findKind, findReply, textOf, replyOf}
+use Rattle.replies.specs.ReplyForms.{Text, textBytes, Lowest, noLowest, lowest, LowestAddress, noAddress, lowestAddress, addressBytes, Reply, read, readFailure, written, writeFailure, options, information, locked, front, replyBytes, Names, Ended, EndedBehind, bit1, given, Formed, IsReply}
+use Rattle.replies.specs.Finding.{isText, replyKind, findRead, findWritten, codeIn, failureFits, messageIn, findReadFailure, findWriteFailure, findOptions, findInformation, findLocked, findKind, findReply, textOf, replyOf}
 use Rattle.replies.specs.declared.ReplyKind.{ReplyKind}
 use Rattle.replies.specs.declared.ReplyKind.the-variants as kind
 use Rattle.replies.proofs.KindLaws.{is-read, is-read-failure, is-written, is-write-failure}

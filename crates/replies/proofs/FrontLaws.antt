@@ -2,7 +2,6 @@
 -- Assumes nothing.
 use Prim.Native.Nat.{ℕ, zero, suc, _+_, _*_, _/_, _%_, _≤_, _<_}
 use mathlib.Core.Path.{_≡_, refl, sym, ap, _∙_}
-use mathlib.Core.Bool.{Bool, true, false, cond}
 use mathlib.Core.List.{List, [], _∷_, _++_}
 use native.Mathlib.Nat.{add-zero}
 use native.Mathlib.Omega.{arith}
@@ -10,7 +9,7 @@ use lib.ListN.{length, getD, drop}
 use lib.Seq.{drop-cons}
 use borrow.Author.Tests.{lt-leb}
 use Rattle.buffer.specs.BigEndian.{numberOf, bytesOf, twoBytes}
-use Rattle.fields.specs.Commands.{formBits, spaceByte, lowForm, formOf, formIn, headLength, spaceOf, addressOf}
+use Rattle.fields.specs.Commands.{formBits, lowForm, formOf, formIn, headLength, spaceOf, addressOf}
 use Rattle.fields.specs.declared.Form.{Form}
 use Rattle.fields.specs.declared.Form.the-variants.{NoSpace, Byte6, Fd, Fe, Ff}
 use Rattle.replies.specs.ReplyForms.{front, Names, Bytes}

@@ -1,7 +1,7 @@
 -- Each datagram has the reading that the language gives it, or none.
 -- Assumes nothing.
 use mathlib.Core.Path.{_≡_, sym, _∙_}
-use mathlib.Core.Option.{Option, some}
+use mathlib.Core.Option.{some}
 use Rattle.replies.specs.ReplyForms.{Reply}
 use Rattle.replies.specs.Finding.{Readings}
 use Rattle.replies.proofs.CompleteLaws.{complete}

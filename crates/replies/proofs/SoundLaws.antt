@@ -4,18 +4,17 @@ use Prim.Native.Nat.{ℕ, suc, _+_, _-_, _*_, _≤_, _<_}
 use mathlib.Core.Path.{_≡_, refl, sym, ap, _∙_}
 use mathlib.Core.Bool.{Bool, true, false, cond, _&&_}
 use mathlib.Core.List.{List, [], _∷_, _++_, append-nil}
-use mathlib.Core.Option.{Option, none, some}
-use native.Mathlib.Nat.{add-zero}
+use mathlib.Core.Option.{some}
 use native.Mathlib.Omega.{arith}
 use lib.Dec.{leb, ltb, eqb}
-use lib.ListN.{length, getD, take, drop, length-drop, drop-of-length-le}
+use lib.ListN.{length, getD, drop, length-drop, drop-of-length-le}
 use lib.Seq.{drop-cons, take-all}
 use borrow.Author.Tests.{leb-true, ltb-true, eqb-true, eqb-false}
 use Rattle.buffer.specs.BigEndian.{numberOf, bytesOf, twoBytes}
 use Rattle.buffer.proofs.Choice.{cond-elim, and-left, and-right, by-test}
 use Rattle.buffer.proofs.Ends.{part-rest}
 use Rattle.fields.specs.Commands.{within, formIn, spaceOf, addressOf}
-use Rattle.replies.specs.ReplyForms.{Text, textBytes, Lowest, lowestBytes, addressBytes, Reply, read, readFailure, written, writeFailure, options, information, locked, front, replyBytes, Names, Ended, EndedBehind, bit1, given, Formed, IsReply, Bytes}
+use Rattle.replies.specs.ReplyForms.{Text, textBytes, lowestBytes, addressBytes, Reply, read, readFailure, written, writeFailure, options, information, locked, replyBytes, Ended, EndedBehind, bit1, given, Formed, IsReply, Bytes}
 use Rattle.replies.specs.Finding.{isText, textFrom, replyKind, headIn, orNone, findRead, findWritten, codeIn, failureFits, messageIn, findReadFailure, findWriteFailure, lowestIn, findOptions, isGiven, descriptionStart, addressIn, findInformation, findLocked, findKind, findReply, bytesAt, textOf, lowestOf, lowestAddressOf, replyOf}
 use Rattle.replies.specs.declared.ReplyIn.{ReplyIn}
 use Rattle.replies.specs.declared.ReplyIn.the-variants as found

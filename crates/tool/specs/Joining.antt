@@ -1,5 +1,4 @@
 -- What comes of joining a frame of a reply, as numbers for a caller in C.
-use mathlib.Core.Path.{_≡_}
 use mathlib.Core.Bool.{cond}
 use lib.Dec.{eqb}
 use Rattle.outcome.specs.declared.Outcome.{Outcome}

@@ -1,10 +1,10 @@
 -- `by_kind` meets its contract.
 -- Assumes nothing.
-use borrow.Author.Needs.{needs}
 use Prim.Native.Nat.{ℕ}
 use mathlib.Core.Path.{_≡_, refl, sym, ap, _∙_}
 use mathlib.Core.List.{List}
 use lib.ListN.{getD}
+use borrow.Author.Needs.{needs}
 use Rattle.replies.specs.Finding.{replyKind, findKind}
 use Rattle.replies.specs.declared.ReplyIn.{ReplyIn}
 use Rattle.replies.specs.declared.ReplyKind.{ReplyKind}

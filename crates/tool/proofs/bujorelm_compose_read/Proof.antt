@@ -1,9 +1,9 @@
 -- `bujorelm_compose_read` meets its contract.
 -- Assumes nothing.
-use Rattle.writing.proofs.WritesLaws.{writes-w1}
-use Rattle.tool.proofs.ToolLaws.{composes, count-over}
 use native.Mathlib.Omega.{arith}
 use borrow.Author.Needs.{needs}
+use Rattle.writing.proofs.WritesLaws.{writes-w1}
+use Rattle.tool.proofs.ToolLaws.{composes, count-over}
 use Rattle.tool.proofs.bujorelm_compose_read.Statement.{statement}
 use Rattle.tool.proofs.bujorelm_compose_read.Tie as tie
 

@@ -1,7 +1,7 @@
 -- `bujorelm_read_reply` meets its contract.
 -- Assumes nothing.
-use Rattle.meeting.proofs.MeetingLaws.{halves-meet}
 use borrow.Author.Needs.{needs}
+use Rattle.meeting.proofs.MeetingLaws.{halves-meet}
 use Rattle.tool.proofs.bujorelm_read_reply.Statement.{statement}
 use Rattle.tool.proofs.bujorelm_read_reply.Tie as tie
 

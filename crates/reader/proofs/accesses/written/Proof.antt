@@ -1,6 +1,5 @@
 -- `written` meets its contract.
 -- Assumes nothing.
-use native.Mathlib.Omega.{arith}
 use borrow.Author.Needs.{needs}
 use Rattle.reader.proofs.AccessLaws.{written-long, written-found}
 use Rattle.reader.proofs.accesses.written.Statement.{statement}

@@ -1,6 +1,5 @@
 -- `description_start` meets its contract.
 -- Assumes nothing.
-use native.Mathlib.Omega.{arith}
 use borrow.Author.Needs.{needs}
 use Rattle.reader.proofs.InquiryLaws.{start-given, start-not-given}
 use Rattle.reader.proofs.inquiries.description_start.Statement.{statement}

@@ -1,7 +1,5 @@
 -- `locked` meets its contract.
 -- Assumes nothing.
-use native.Mathlib.Omega.{arith}
-use borrow.Author.Needs.{needs}
 use Rattle.reader.proofs.InquiryLaws.{not-locked, is-locked}
 use Rattle.reader.proofs.inquiries.locked.Statement.{statement}
 use Rattle.reader.proofs.inquiries.locked.Tie as tie

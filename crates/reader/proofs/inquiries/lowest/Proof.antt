@@ -1,6 +1,5 @@
 -- `lowest` meets its contract.
 -- Assumes nothing.
-use native.Mathlib.Omega.{arith}
 use borrow.Author.Needs.{needs}
 use Rattle.reader.proofs.InquiryLaws.{no-lowest, has-lowest}
 use Rattle.reader.proofs.inquiries.lowest.Statement.{statement}

@@ -1,6 +1,5 @@
 -- `lowest_address` meets its contract.
 -- Assumes nothing.
-use native.Mathlib.Omega.{arith}
 use borrow.Author.Needs.{needs}
 use Rattle.reader.proofs.InquiryLaws.{no-address, has-address}
 use Rattle.reader.proofs.inquiries.lowest_address.Statement.{statement}
