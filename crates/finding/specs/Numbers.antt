@@ -71,9 +71,9 @@ noOptions = record { commands = 0; «write_lengths» = 0; «highest_space» = 0;
 abbrev pub noInformation : InformationFields
 noInformation = record { «highest_address» = 0; «lowest_address» = 0; flags = 0; present = false; «has_lowest_address» = false }
 
-abbrev pub accessFields : ℕ → ℕ → ℕ → ℕ → ℕ → Bytes → ReplyFields
+abbrev pub accessFields : ℕ → Form → ℕ → ℕ → ℕ → Bytes → ReplyFields
 accessFields kind form space address code bytes =
-    record { kind = kind; address = address; code = code; space = space; form = form; options = noOptions; information = noInformation; bytes = bytes }
+    record { kind = kind; address = address; code = code; space = space; form = formNumber form; options = noOptions; information = noInformation; bytes = bytes }
 
 abbrev pub aboutFields : ℕ → ℕ → OptionsFields → InformationFields → Bytes → ReplyFields
 aboutFields kind space options information bytes =
@@ -96,11 +96,11 @@ informationOf present highest flags (AddressIs low) =
     record { «highest_address» = highest; «lowest_address» = low; flags = flags; present = present; «has_lowest_address» = true }
 
 unfoldable pub fieldsOf : ReplyIn → ReplyFields
-fieldsOf found.NoReply = accessFields 0 0 0 0 0 noBytes
-fieldsOf (found.Read form space address start n) = accessFields 1 (formNumber form) space address 0 (bytesAt start n)
-fieldsOf (found.ReadFailure form space address code message) = accessFields 2 (formNumber form) space address code (textBytes message)
-fieldsOf (found.Written form space address) = accessFields 3 (formNumber form) space address 0 noBytes
-fieldsOf (found.WriteFailure form space address code message) = accessFields 4 (formNumber form) space address code (textBytes message)
+fieldsOf found.NoReply = accessFields 0 Byte6 0 0 0 noBytes
+fieldsOf (found.Read form space address start n) = accessFields 1 form space address 0 (bytesAt start n)
+fieldsOf (found.ReadFailure form space address code message) = accessFields 2 form space address code (textBytes message)
+fieldsOf (found.Written form space address) = accessFields 3 form space address 0 noBytes
+fieldsOf (found.WriteFailure form space address code message) = accessFields 4 form space address code (textBytes message)
 fieldsOf (found.Options commands lengths highest low) = aboutFields 5 0 (optionsOf commands lengths highest low) noInformation (nameBytes low)
 fieldsOf (found.Information present space highest flags low description) =
     aboutFields 6 space noOptions (informationOf present highest flags low) (textBytes description)

@@ -210,7 +210,7 @@ fn no_information() -> InformationFields
 }
 
 // The reply to a read or a write; of kind 0, none.
-fn access(kind: u32, form: u8, space: u8, address: u32, code: u16, bytes: Bytes) -> ReplyFields
+fn access(kind: u32, form: Form, space: u8, address: u32, code: u16, bytes: Bytes) -> ReplyFields
     ensures { λ r. ⌜ r ≡ accessFields kind form space address code bytes ⌝ }
 {
     ReplyFields {
@@ -218,7 +218,7 @@ fn access(kind: u32, form: u8, space: u8, address: u32, code: u16, bytes: Bytes)
         address: address,
         code: code,
         space: space,
-        form: form,
+        form: form_number(form),
         options: no_options(),
         information: no_information(),
         bytes: bytes,
@@ -308,101 +308,31 @@ pub fn of_reply(reply: ReplyIn) -> ReplyFields
 {
     match reply {
         ReplyIn::NoReply => {
-            return access(0, 0, 0, 0, 0, no_bytes());
+            return access(0, Form::Byte6, 0, 0, 0, no_bytes());
         }
-        ReplyIn::Read {
-            form,
-            space,
-            address,
-            start,
-            length,
-        } => {
-            return access(
-                1,
-                form_number(form),
-                space,
-                address,
-                0,
-                bytes_at(start, length),
-            );
+        ReplyIn::Read(form, space, address, start, length) => {
+            return access(1, form, space, address, 0, bytes_at(start, length));
         }
-        ReplyIn::ReadFailure {
-            form,
-            space,
-            address,
-            code,
-            message,
-        } => {
-            return access(
-                2,
-                form_number(form),
-                space,
-                address,
-                code,
-                text_bytes(message),
-            );
+        ReplyIn::ReadFailure(form, space, address, code, message) => {
+            return access(2, form, space, address, code, text_bytes(message));
         }
-        ReplyIn::Written {
-            form,
-            space,
-            address,
-        } => {
-            return access(3, form_number(form), space, address, 0, no_bytes());
+        ReplyIn::Written(form, space, address) => {
+            return access(3, form, space, address, 0, no_bytes());
         }
-        ReplyIn::WriteFailure {
-            form,
-            space,
-            address,
-            code,
-            message,
-        } => {
-            return access(
-                4,
-                form_number(form),
-                space,
-                address,
-                code,
-                text_bytes(message),
-            );
+        ReplyIn::WriteFailure(form, space, address, code, message) => {
+            return access(4, form, space, address, code, text_bytes(message));
         }
-        ReplyIn::Options {
-            commands,
-            lengths,
-            highest,
-            low,
-        } => {
-            return about(
-                5,
-                0,
-                options(commands, lengths, highest, low),
-                no_information(),
-                name_bytes(low),
-            );
+        ReplyIn::Options(commands, lengths, highest, low) => {
+            let given = options(commands, lengths, highest, low);
+            return about(5, 0, given, no_information(), name_bytes(low));
         }
-        ReplyIn::Information {
-            present,
-            space,
-            highest,
-            flags,
-            low,
-            description,
-        } => {
-            return about(
-                6,
-                space,
-                no_options(),
-                information(present, highest, flags, low),
-                text_bytes(description),
-            );
+        ReplyIn::Information(present, space, highest, flags, low, description) => {
+            let given = information(present, highest, flags, low);
+            return about(6, space, no_options(), given, text_bytes(description));
         }
-        ReplyIn::Locked { start, length } => {
-            return about(
-                7,
-                0,
-                no_options(),
-                no_information(),
-                bytes_at(start, length),
-            );
+        ReplyIn::Locked(start, length) => {
+            let bytes = bytes_at(start, length);
+            return about(7, 0, no_options(), no_information(), bytes);
         }
     }
 }

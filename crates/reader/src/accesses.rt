@@ -19,13 +19,7 @@ pub fn read(datagram: &[u8]) -> ReplyIn
         return ReplyIn::NoReply;
     }
     let target = view::target_of(datagram);
-    ReplyIn::Read {
-        form: form,
-        space: target.space,
-        address: target.address,
-        start: head,
-        length: length - head,
-    }
+    ReplyIn::Read(form, target.space, target.address, head, length - head)
 }
 
 // A write that is done, with nothing behind.
@@ -37,11 +31,7 @@ pub fn written(datagram: &[u8]) -> ReplyIn
         return ReplyIn::NoReply;
     }
     let target = view::target_of(datagram);
-    ReplyIn::Written {
-        form: form,
-        space: target.space,
-        address: target.address,
-    }
+    ReplyIn::Written(form, target.space, target.address)
 }
 
 // Whether a code stands behind the head, and behind it a message of at most 63 bytes, or none.
@@ -84,13 +74,9 @@ pub fn read_failure(datagram: &[u8]) -> ReplyIn
         return ReplyIn::NoReply;
     }
     let target = view::target_of(datagram);
-    ReplyIn::ReadFailure {
-        form: fields::form_in(datagram),
-        space: target.space,
-        address: target.address,
-        code: code(datagram),
-        message: message(datagram),
-    }
+    let form = fields::form_in(datagram);
+    let code = code(datagram);
+    ReplyIn::ReadFailure(form, target.space, target.address, code, message(datagram))
 }
 
 // A write or a masked write that failed.
@@ -101,11 +87,7 @@ pub fn write_failure(datagram: &[u8]) -> ReplyIn
         return ReplyIn::NoReply;
     }
     let target = view::target_of(datagram);
-    ReplyIn::WriteFailure {
-        form: fields::form_in(datagram),
-        space: target.space,
-        address: target.address,
-        code: code(datagram),
-        message: message(datagram),
-    }
+    let form = fields::form_in(datagram);
+    let code = code(datagram);
+    ReplyIn::WriteFailure(form, target.space, target.address, code, message(datagram))
 }

@@ -32,12 +32,8 @@ pub fn options(datagram: &[u8]) -> ReplyIn
     if !texts::is_text_from(datagram, 7) {
         return ReplyIn::NoReply;
     }
-    ReplyIn::Options {
-        commands: replies::two_bytes(datagram[2], datagram[3]),
-        lengths: datagram[4],
-        highest: datagram[5],
-        low: lowest(datagram),
-    }
+    let commands = replies::two_bytes(datagram[2], datagram[3]);
+    ReplyIn::Options(commands, datagram[4], datagram[5], lowest(datagram))
 }
 
 // Where the description of a space begins: behind the flags, or behind the lowest address that bit 1 of the flags says is there.
@@ -74,14 +70,18 @@ pub fn information(datagram: &[u8], present: bool) -> ReplyIn
     if !texts::is_text_from(datagram, start) {
         return ReplyIn::NoReply;
     }
-    ReplyIn::Information {
-        present: present,
-        space: datagram[2],
-        highest: buffer::number(datagram[3], datagram[4], datagram[5], datagram[6]),
-        flags: datagram[7],
-        low: lowest_address(datagram),
-        description: replies::text_from(start, end),
-    }
+    let space = datagram[2];
+    let highest = buffer::number(datagram[3], datagram[4], datagram[5], datagram[6]);
+    let flags = datagram[7];
+    let low = lowest_address(datagram);
+    ReplyIn::Information(
+        present,
+        space,
+        highest,
+        flags,
+        low,
+        replies::text_from(start, end),
+    )
 }
 
 // Who holds the lock: an ID of six bytes.
@@ -91,8 +91,5 @@ pub fn locked(datagram: &[u8]) -> ReplyIn
     if datagram.len() != 8 {
         return ReplyIn::NoReply;
     }
-    ReplyIn::Locked {
-        start: 2,
-        length: 6,
-    }
+    ReplyIn::Locked(2, 6)
 }

@@ -38,50 +38,17 @@ pub enum ReplyKind {
 // A reply with its fields, or none: W3. Data and the lock's ID are given by where they start and how many bytes they are.
 pub enum ReplyIn {
     NoReply,
-    Read {
-        form: Form,
-        space: u8,
-        address: u32,
-        start: usize,
-        length: usize,
-    },
-    ReadFailure {
-        form: Form,
-        space: u8,
-        address: u32,
-        code: u16,
-        message: TextIn,
-    },
-    Written {
-        form: Form,
-        space: u8,
-        address: u32,
-    },
-    WriteFailure {
-        form: Form,
-        space: u8,
-        address: u32,
-        code: u16,
-        message: TextIn,
-    },
-    Options {
-        commands: u16,
-        lengths: u8,
-        highest: u8,
-        low: LowestIn,
-    },
-    Information {
-        present: bool,
-        space: u8,
-        highest: u32,
-        flags: u8,
-        low: AddressIn,
-        description: TextIn,
-    },
-    Locked {
-        start: usize,
-        length: usize,
-    },
+    // the form that names the space, the space, the address; where the bytes start, and their number
+    Read(Form, u8, u32, usize, usize),
+    // the same three, the code, the message
+    ReadFailure(Form, u8, u32, u16, TextIn),
+    Written(Form, u8, u32),
+    WriteFailure(Form, u8, u32, u16, TextIn),
+    // the available commands, the write lengths, the highest space, the lowest
+    Options(u16, u8, u8, LowestIn),
+    // whether the space is present, its number, the highest address, the flags, the lowest address, the description
+    Information(bool, u8, u32, u8, AddressIn, TextIn),
+    Locked(usize, usize),
 }
 
 pub fn reply_kind(command: u8) -> ReplyKind

@@ -1,18 +1,22 @@
 -- What comes of joining a frame of a reply, as numbers for a caller in C.
+use Prim.Native.Nat.{ℕ}
 use mathlib.Core.Bool.{cond}
 use lib.Dec.{eqb}
 use Rattle.outcome.specs.declared.Outcome.{Outcome}
 use Rattle.outcome.specs.declared.Outcome.the-variants as outcome
 use Rattle.tool.specs.declared.JoinedFields.{JoinedFields}
 
+abbrev pub joinedAs : ℕ → ℕ → ℕ → ℕ → JoinedFields
+joinedAs kind code start end = record { kind = kind; code = code; start = start; end = end }
+
 -- The number of each case, and its values.
 abbrev pub joinedOf : Outcome → JoinedFields
-joinedOf outcome.BadState = record { kind = 0; code = 0; start = 0; end = 0 }
-joinedOf outcome.Ignored = record { kind = 1; code = 0; start = 0; end = 0 }
-joinedOf outcome.NoAnswer = record { kind = 2; code = 0; start = 0; end = 0 }
-joinedOf (outcome.Refuse code) = record { kind = 3; code = code; start = 0; end = 0 }
-joinedOf outcome.InFrame = record { kind = 4; code = 0; start = 0; end = 0 }
-joinedOf (outcome.InPool from end) = record { kind = 5; code = 0; start = from; end = end }
+joinedOf outcome.BadState = joinedAs 0 0 0 0
+joinedOf outcome.Ignored = joinedAs 1 0 0 0
+joinedOf outcome.NoAnswer = joinedAs 2 0 0 0
+joinedOf (outcome.Refuse code) = joinedAs 3 code 0 0
+joinedOf outcome.InFrame = joinedAs 4 0 0 0
+joinedOf (outcome.InPool from end) = joinedAs 5 0 from end
 
 -- The case that the numbers stand for.
 abbrev pub outcomeIs : JoinedFields → Outcome

@@ -21,7 +21,7 @@ ghost use Rattle.receipt.specs.Receipt.{receivedIn, rejectionIn};
 ghost use Rattle.finding.specs.Numbers.{acknowledgedOf, rejectionOf, fieldsOf, ToldApart};
 ghost use Rattle.meeting.specs.Meeting.{HalvesMeet};
 ghost use Rattle.tool.specs.Composing.{Composes};
-ghost use Rattle.tool.specs.Joining.{joinedOf, outcomeIs};
+ghost use Rattle.tool.specs.Joining.{joinedAs, joinedOf, outcomeIs};
 
 // The version of this edge, major in the upper 16 bits and minor in the lower: a header of the same major and of no greater minor fits.
 const VERSION: u32 = 0x00010000;
@@ -145,46 +145,39 @@ pub extern "C" fn bujorelm_read_reply(datagram: &[u8]) -> ReplyFields
     finding::of_reply(reader::read_reply(datagram))
 }
 
+fn joined(kind: u32, code: u16, start: usize, end: usize) -> JoinedFields
+    ensures { λ r. ⌜ r ≡ joinedAs kind code start end ⌝ }
+{
+    JoinedFields {
+        kind: kind,
+        code: code,
+        start: start,
+        end: end,
+    }
+}
+
 fn of_outcome(outcome: Outcome) -> JoinedFields
     ensures { λ r. ⌜ (r ≡ joinedOf outcome) × (outcomeIs r ≡ outcome) ⌝ }
 {
     match outcome {
-        Outcome::BadState => JoinedFields {
-            kind: 0,
-            code: 0,
-            start: 0,
-            end: 0,
-        },
-        Outcome::Ignored => JoinedFields {
-            kind: 1,
-            code: 0,
-            start: 0,
-            end: 0,
-        },
-        Outcome::NoAnswer => JoinedFields {
-            kind: 2,
-            code: 0,
-            start: 0,
-            end: 0,
-        },
-        Outcome::Refuse(code) => JoinedFields {
-            kind: 3,
-            code: code,
-            start: 0,
-            end: 0,
-        },
-        Outcome::InFrame => JoinedFields {
-            kind: 4,
-            code: 0,
-            start: 0,
-            end: 0,
-        },
-        Outcome::InPool(from, end) => JoinedFields {
-            kind: 5,
-            code: 0,
-            start: from,
-            end: end,
-        },
+        Outcome::BadState => {
+            return joined(0, 0, 0, 0);
+        }
+        Outcome::Ignored => {
+            return joined(1, 0, 0, 0);
+        }
+        Outcome::NoAnswer => {
+            return joined(2, 0, 0, 0);
+        }
+        Outcome::Refuse(code) => {
+            return joined(3, code, 0, 0);
+        }
+        Outcome::InFrame => {
+            return joined(4, 0, 0, 0);
+        }
+        Outcome::InPool(from, end) => {
+            return joined(5, 0, from, end);
+        }
     }
 }
 

@@ -12,19 +12,19 @@ returns c = (rw (c .before .before .enum-told .given .1, c .access .ensures, c .
 
 returns-2 : tie.Need-returns-2
 unfolding fieldsOf
-returns-2 c = (rw (c .before .before .before .before .reply .given .1, c .access2 .ensures, c .before .bytes-at .ensures, c .before .before .form-number .ensures), told-apart)
+returns-2 c = (rw (c .before .before .before .reply .given .1, c .access2 .ensures, c .before .bytes-at .ensures), told-apart)
 
 returns-3 : tie.Need-returns-3
 unfolding fieldsOf
-returns-3 c = (rw (c .before .before .before .before .reply2 .given .1, c .access3 .ensures, c .before .text-bytes .ensures, c .before .before .form-number2 .ensures), told-apart)
+returns-3 c = (rw (c .before .before .before .reply2 .given .1, c .access3 .ensures, c .before .text-bytes .ensures), told-apart)
 
 returns-4 : tie.Need-returns-4
 unfolding fieldsOf
-returns-4 c = (rw (c .before .before .before .before .reply3 .given .1, c .access4 .ensures, c .before .no-bytes2 .ensures, c .before .before .form-number3 .ensures), told-apart)
+returns-4 c = (rw (c .before .before .before .reply3 .given .1, c .access4 .ensures, c .before .no-bytes2 .ensures), told-apart)
 
 returns-5 : tie.Need-returns-5
 unfolding fieldsOf
-returns-5 c = (rw (c .before .before .before .before .reply4 .given .1, c .access5 .ensures, c .before .text-bytes2 .ensures, c .before .before .form-number4 .ensures), told-apart)
+returns-5 c = (rw (c .before .before .before .reply4 .given .1, c .access5 .ensures, c .before .text-bytes2 .ensures), told-apart)
 
 returns-6 : tie.Need-returns-6
 unfolding fieldsOf
@@ -32,11 +32,11 @@ returns-6 c = (rw (c .before .before .before .before .before .reply5 .given .1, 
 
 returns-7 : tie.Need-returns-7
 unfolding fieldsOf
-returns-7 c = (rw (c .before .before .before .before .before .reply6 .given .1, c .about2 .ensures, c .before .text-bytes3 .ensures, c .before .before .information .ensures, c .before .before .before .no-options .ensures), told-apart)
+returns-7 c = (rw (c .before .before .before .before .before .reply6 .given .1, c .about2 .ensures, c .before .text-bytes3 .ensures, c .before .before .no-options .ensures, c .before .before .before .information .ensures), told-apart)
 
 returns-8 : tie.Need-returns-8
 unfolding fieldsOf
-returns-8 c = (rw (c .before .before .before .before .before .reply7 .given .1, c .about3 .ensures, c .before .bytes-at2 .ensures, c .before .before .no-information2 .ensures, c .before .before .before .no-options2 .ensures), told-apart)
+returns-8 c = (rw (c .before .before .before .before .before .reply7 .given .1, c .about3 .ensures, c .before .no-information2 .ensures, c .before .before .no-options2 .ensures, c .before .before .before .bytes-at2 .ensures), told-apart)
 
 pub of-reply-spec : {M : Type 1} → statement M
 of-reply-spec =
@@ -49,20 +49,16 @@ of-reply-spec =
     (λ c. search needs)
     (λ c κs. search needs)
     (λ c κs. search needs)
-    (λ c κs. search needs)
     returns-2
     (λ c. search needs)
-    (λ c κs. search needs)
     (λ c κs. search needs)
     (λ c κs. search needs)
     returns-3
     (λ c. search needs)
     (λ c κs. search needs)
     (λ c κs. search needs)
-    (λ c κs. search needs)
     returns-4
     (λ c. search needs)
-    (λ c κs. search needs)
     (λ c κs. search needs)
     (λ c κs. search needs)
     returns-5
