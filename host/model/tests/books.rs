@@ -5,20 +5,8 @@ mod common;
 
 use std::collections::BTreeMap;
 
-use common::Bench;
+use common::{Bench, Numbers};
 use model::{Answer, FrameAnswer};
-
-/// A small generator of numbers, so that each run is the same.
-struct Numbers(u64);
-
-impl Numbers {
-    fn next(&mut self, below: u32) -> u32 {
-        self.0 ^= self.0 << 13;
-        self.0 ^= self.0 >> 7;
-        self.0 ^= self.0 << 17;
-        ((self.0 >> 32) as u32) % below
-    }
-}
 
 enum Step {
     Ignored,
@@ -70,18 +58,18 @@ fn book(books: &mut BTreeMap<u16, Vec<u8>>, alias: u16, header: u32, data: &[u8]
 
 /// Data that often begin or carry on a sensible command.
 fn data(numbers: &mut Numbers, kind: u32) -> Vec<u8> {
-    let length = match numbers.next(40) {
+    let length = match numbers.below(40) {
         0 => 9,
         1 => 0,
         n => n % 9,
     };
-    let mut bytes: Vec<u8> = (0..length).map(|_| numbers.next(64) as u8).collect();
+    let mut bytes: Vec<u8> = (0..length).map(|_| numbers.below(64) as u8).collect();
     if kind <= 0x1B {
         let commands = [
             0x00, 0x01, 0x02, 0x03, 0x08, 0x09, 0x0A, 0x40, 0x41, 0x42, 0x43, 0x80, 0x84, 0x88,
             0xA8, 0x44,
         ];
-        let start = [0x20, commands[numbers.next(16) as usize], 0, 0, 0];
+        let start = [0x20, commands[numbers.below(16) as usize], 0, 0, 0];
         for (byte, begin) in bytes.iter_mut().zip(start) {
             *byte = begin;
         }
@@ -98,13 +86,13 @@ fn random_frames_against_the_books() {
         let mut whole = Bench::demo();
         let mut books = BTreeMap::new();
         for _ in 0..40_000 {
-            let source = match numbers.next(sources + 1) {
-                n if n == sources && numbers.next(4) == 0 => 0x22B,
+            let source = match numbers.below(sources + 1) {
+                n if n == sources && numbers.below(4) == 0 => 0x22B,
                 n => 0x225 + n % sources,
             };
             // Kinds that are in order most of the time, so that datagrams grow long.
             let opened = books.contains_key(&(source as u16));
-            let kind = match numbers.next(100) {
+            let kind = match numbers.below(100) {
                 0 => 0x19,
                 1 => 0x1E,
                 2 => 0x3A,
@@ -117,7 +105,7 @@ fn random_frames_against_the_books() {
                 7..=15 => 0x1D,
                 _ => 0x1C,
             };
-            let destination = if numbers.next(30) == 0 { 0x22C } else { 0x22B };
+            let destination = if numbers.below(30) == 0 { 0x22C } else { 0x22B };
             let header = kind << 24 | destination << 12 | source;
             let data = data(&mut numbers, kind);
 
