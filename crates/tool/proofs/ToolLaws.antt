@@ -9,8 +9,8 @@ use borrow.Author.Tests.{le-leb, lt-leb}
 use Rattle.fields.specs.Commands.{Request, read}
 use Rattle.writing.specs.Writing.{inRange, Writes}
 use Rattle.writing.specs.declared.Written.{Written}
-use Rattle.finding.specs.Numbers.{composedOf}
-use Rattle.finding.specs.declared.Composed.{Composed}
+use Rattle.numbers.specs.Numbers.{composedOf}
+use Rattle.numbers.specs.declared.Composed.{Composed}
 use Rattle.tool.specs.Composing.{Composes}
 
 pub composes : {whole : Bool} {q : Request} {w : Written} {r : Composed} {before after : List ℕ} → Writes whole q w before after → r ≡ composedOf w →

@@ -6,8 +6,8 @@ use Prim.Native.Nat.{ℕ}
 use lib.ListN.{length}
 use Rattle.fields.specs.Commands.{Request}
 use Rattle.writing.specs.Writing.{inRange, writing, OneForm, AllInRange, answerOf, bufferOf}
-use Rattle.finding.specs.Numbers.{composedOf}
-use Rattle.finding.specs.declared.Composed.{Composed}
+use Rattle.numbers.specs.Numbers.{composedOf}
+use Rattle.numbers.specs.declared.Composed.{Composed}
 
 -- The numbers r and the buffer `after` are what comes of writing q over the buffer `before`; and what holds of its one form.
 pub record Composes (whole : Bool) (q : Request) (r : Composed) (before after : List ℕ) : Type 0 where

@@ -1,9 +1,9 @@
 // The edge of the tool's half to C: a command written for each request, the readers of what a board answers, and the frames of its replies joined.
 // Everything is lent: a slice is a pointer and then a length, an array of a fixed length is a pointer.
-use finding::Acknowledged;
-use finding::Composed;
-use finding::RejectionFields;
-use finding::ReplyFields;
+use numbers::Acknowledged;
+use numbers::Composed;
+use numbers::RejectionFields;
+use numbers::ReplyFields;
 use outcome::Outcome;
 use writing::Written;
 ghost use mathlib.Core.Path.{_≡_};
@@ -18,7 +18,7 @@ ghost use Rattle.reception.specs.PlaceBytes.{stateIn};
 ghost use Rattle.outcome.specs.Joins.{Joins};
 ghost use Rattle.replies.specs.Finding.{findReply, Readings};
 ghost use Rattle.receipt.specs.Receipt.{receivedIn, rejectionIn};
-ghost use Rattle.finding.specs.Numbers.{acknowledgedOf, rejectionOf, fieldsOf, ToldApart};
+ghost use Rattle.numbers.specs.Numbers.{acknowledgedOf, rejectionOf, fieldsOf, ToldApart};
 ghost use Rattle.meeting.specs.Meeting.{HalvesMeet};
 ghost use Rattle.tool.specs.Composing.{Composes};
 ghost use Rattle.tool.specs.Joining.{joinedAs, joinedOf, outcomeIs};

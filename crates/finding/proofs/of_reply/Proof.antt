@@ -1,8 +1,8 @@
 -- `of_reply` meets its contract.
 -- Assumes nothing.
 use borrow.Author.Needs.{needs}
-use Rattle.finding.specs.Numbers.{fieldsOf}
-use Rattle.finding.proofs.ApartLaws.{told-apart}
+use Rattle.numbers.specs.Numbers.{fieldsOf}
+use Rattle.numbers.proofs.ApartLaws.{told-apart}
 use Rattle.finding.proofs.of_reply.Statement.{statement}
 use Rattle.finding.proofs.of_reply.Tie as tie
 

@@ -19,13 +19,13 @@ use Rattle.replies.specs.declared.AddressIn.{AddressIn}
 use Rattle.replies.specs.declared.AddressIn.the-variants.{NoAddress, AddressIs}
 use Rattle.replies.specs.declared.ReplyIn.{ReplyIn}
 use Rattle.replies.specs.declared.ReplyIn.the-variants as found
-use Rattle.finding.specs.declared.Composed.{Composed}
-use Rattle.finding.specs.declared.Acknowledged.{Acknowledged}
-use Rattle.finding.specs.declared.Bytes.{Bytes}
-use Rattle.finding.specs.declared.RejectionFields.{RejectionFields}
-use Rattle.finding.specs.declared.OptionsFields.{OptionsFields}
-use Rattle.finding.specs.declared.InformationFields.{InformationFields}
-use Rattle.finding.specs.declared.ReplyFields.{ReplyFields}
+use Rattle.numbers.specs.declared.Composed.{Composed}
+use Rattle.numbers.specs.declared.Acknowledged.{Acknowledged}
+use Rattle.numbers.specs.declared.Bytes.{Bytes}
+use Rattle.numbers.specs.declared.RejectionFields.{RejectionFields}
+use Rattle.numbers.specs.declared.OptionsFields.{OptionsFields}
+use Rattle.numbers.specs.declared.InformationFields.{InformationFields}
+use Rattle.numbers.specs.declared.ReplyFields.{ReplyFields}
 
 -- ---- W1 and W2, or the command's length
 

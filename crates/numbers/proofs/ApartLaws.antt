@@ -8,7 +8,7 @@ use Rattle.replies.specs.declared.TextIn.the-variants.{NoText, TextAt}
 use Rattle.replies.specs.declared.LowestIn.the-variants.{NoLowest, LowestSpace}
 use Rattle.replies.specs.declared.AddressIn.the-variants.{NoAddress, AddressIs}
 use Rattle.replies.specs.declared.ReplyIn.the-variants as found
-use Rattle.finding.specs.Numbers.{formNumber, textBytes, fieldsOf, formIs, textIs, replyIs, ToldApart}
+use Rattle.numbers.specs.Numbers.{formNumber, textBytes, fieldsOf, formIs, textIs, replyIs, ToldApart}
 
 form-back : (form : Form) → formIs (formNumber form) ≡ form
 form-back NoSpace = refl
