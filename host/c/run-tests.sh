@@ -1,17 +1,18 @@
 #!/bin/sh
-# Builds and runs all tests of the C side: the header in C and C++, the library through it (plain, with sanitizers, under valgrind), the
-# stack that a call takes, the examples, docs/DRIVER.md, and the reference host.
+# Builds and runs all tests of the C side: the headers in C and C++, the library through them (plain, with sanitizers, under valgrind), the
+# stack that a call takes, the examples, docs/DRIVER.md and docs/TOOL.md, the reference host, and the bench tool.
 #
 # usage: host/c/run-tests.sh [ROOT]
 #
-# ROOT is the root of the repository (default: the one that this file is in). ROOT/target/staticlib/libdriver.a must be there, as built by
-# `rt staticlib driver`. Everything else is built into ROOT/target/host-c. CC and CXX choose the compilers.
+# ROOT is the root of the repository (default: the one that this file is in). ROOT/target/staticlib/libdriver.a and libtool.a must be there, as
+# built by `rt staticlib driver` and `rt staticlib tool`. Everything else is built into ROOT/target/host-c. CC and CXX choose the compilers.
 set -eu
 
 root=${1:-$(dirname "$0")/../..}
 root=$(cd "$root" && pwd)
 here=$root/host/c
 library=$root/target/staticlib/libdriver.a
+tool=$root/target/staticlib/libtool.a
 out=$root/target/host-c
 
 fail() {
@@ -20,6 +21,7 @@ fail() {
 }
 
 [ -f "$library" ] || fail "$library is not there: run rt staticlib driver"
+[ -f "$tool" ] || fail "$tool is not there: run rt staticlib tool"
 for program in "${CC:=cc}" "${CXX:=c++}" python3 valgrind nm; do
     command -v "$program" > /dev/null || fail "$program is not there"
 done
@@ -35,44 +37,79 @@ compile() {
     $CC $c $2 -I "$here/include" -I "$here" "$here/$3" "$library" -o "$out/$1"
 }
 
-echo "host/c: the header"
-for standard in c99 c11 c17; do
+# compile_tool NAME FLAGS SOURCE..: the same, linked with both archives.
+compile_tool() {
+    name=$1
+    flags=$2
+    shift 2
     # shellcheck disable=SC2086
-    echo '#include "bujorelm.h"' | $CC -std=$standard $warnings -I "$here/include" -x c -fsyntax-only -
-done
+    (cd "$here" && $CC $c $flags -I include -I . "$@" "$tool" "$library" -o "$out/$name")
+}
+
+echo "host/c: the headers"
+# includes HEADER FLAG..: compiles a file that includes the header and nothing else.
+includes() {
+    file=$1
+    shift
+    echo "#include \"$file\"" | $CC "$@" -I "$here/include" -x c -fsyntax-only -
+}
 # What is not the library's platform or layout does not compile, and the message says why.
 refuses() {
-    echo '#include "bujorelm.h"' | $CC -std=c99 "$1" -I "$here/include" -x c -fsyntax-only - 2>&1 | grep -q "$2" ||
-        fail "the header takes $1"
+    includes "$1" -std=c99 "$2" 2>&1 | grep -q "$3" || fail "$1 takes $2"
 }
-refuses -D_WIN32 "System V"
-refuses -fshort-enums kinds_have_4_bytes
+for header in bujorelm.h bujorelm_tool.h; do
+    for standard in c99 c11 c17; do
+        # shellcheck disable=SC2086
+        includes "$header" -std=$standard $warnings
+    done
+    refuses "$header" -D_WIN32 "System V"
+    refuses "$header" -fshort-enums kinds_have_4_bytes
+done
 for standard in c++98 c++11 c++17; do
     # shellcheck disable=SC2086
     $CXX -std=$standard $warnings -I "$here/include" "$here/tests/header.cpp" "$library" -o "$out/header"
     "$out/header"
+    # shellcheck disable=SC2086
+    $CXX -std=$standard $warnings -I "$here/include" "$here/tests/tool_header.cpp" "$tool" "$library" -o "$out/tool-header"
+    "$out/tool-header"
 done
 
 echo "host/c: the library"
-outside=$(nm -u "$library" | sed -n 's/^ *U //p' | sort -u | tr '\n' ' ')
-[ "$outside" = "memcpy memset " ] || fail "what the archive calls outside itself is not what the header says: $outside"
+# outside ARCHIVE: what it calls outside itself.
+outside() {
+    nm -u "$1" | sed -n 's/^ *U //p' | sort -u | tr '\n' ' '
+}
+[ "$(outside "$library")" = "memcpy memset " ] || fail "what libdriver.a calls outside itself is not what the header says: $(outside "$library")"
+[ -z "$(outside "$tool")" ] || fail "libtool.a calls outside itself, which the header excludes: $(outside "$tool")"
 compile library "-O2 -g" tests/library.c
 "$out/library"
 compile library-sanitized "$sanitizers" tests/library.c
 "$out/library-sanitized"
 valgrind --quiet --error-exitcode=1 --leak-check=full --errors-for-leak-kinds=all "$out/library" 20000
+for test in tool_library tool_replies; do
+    compile_tool $test "-O2 -g" tests/$test.c
+    "$out/$test"
+    compile_tool $test-sanitized "$sanitizers" tests/$test.c
+    "$out/$test-sanitized"
+    valgrind --quiet --error-exitcode=1 --leak-check=full --errors-for-leak-kinds=all "$out/$test" 5000
+done
 
 echo "host/c: the stack"
 # The calls are compiled at each level of optimisation, the measuring at one. Functions of the C library are found at the start: to find
 # one at its first call takes stack that is not the call's.
-# shellcheck disable=SC2086
-$CC $c -O2 -I "$here/include" -c "$here/tests/stack.c" -o "$out/stack.o"
-for level in -O0 -O1 -O2 -O3 -Os; do
+# stack NAME ARCHIVE: the test of that name, on the calls of that archive.
+stack() {
     # shellcheck disable=SC2086
-    $CC $c $level -I "$here/include" -c "$here/tests/stack_calls.c" -o "$out/stack_calls.o"
-    $CC -Wl,-z,now "$out/stack.o" "$out/stack_calls.o" "$library" -o "$out/stack"
-    "$out/stack" "$level"
-done
+    $CC $c -O2 -I "$here/include" -c "$here/tests/$1.c" -o "$out/$1.o"
+    for level in -O0 -O1 -O2 -O3 -Os; do
+        # shellcheck disable=SC2086
+        $CC $c $level -I "$here/include" -c "$here/tests/$1_calls.c" -o "$out/$1_calls.o"
+        $CC -Wl,-z,now "$out/$1.o" "$out/$1_calls.o" "$2" -o "$out/$1"
+        "$out/$1" "$level"
+    done
+}
+stack stack "$library"
+stack tool_stack "$tool"
 
 # refusing NAME SOURCE: the same program with a library that refuses as the environment says.
 refusing() {
@@ -81,7 +118,7 @@ refusing() {
         -o "$out/$1-refusing"
 }
 
-echo "host/c: the examples and docs/DRIVER.md"
+echo "host/c: the examples, docs/DRIVER.md and docs/TOOL.md"
 compile example "-O2" example/minimal.c
 compile example-sanitized "$sanitizers" example/minimal.c
 compile socketcan "-O2" example/socketcan.c
@@ -94,11 +131,26 @@ refusing socketcan example/socketcan.c
 refusing host host.c
 python3 "$here/tests/refusal_test.py" "$out"
 python3 "$here/tests/document_test.py" "$root/docs/DRIVER.md" "$root" "$out"
+compile_tool ask "-O2" example/ask.c
+compile_tool ask-sanitized "$sanitizers" example/ask.c
+parts="tool.c tool_bus.c tool_explain.c tool_frames.c tool_words.c"
+# shellcheck disable=SC2086
+compile_tool tool "-O2 -g" $parts
+# shellcheck disable=SC2086
+compile_tool tool-sanitized "$sanitizers" $parts
+python3 "$here/tests/tool_document_test.py" "$root/docs/TOOL.md" "$root" "$out"
 python3 "$here/tests/assumptions_test.py" "$root"
 python3 "$here/tests/demands_test.py" "$root"
 
 echo "host/c: the reference host"
 python3 "$here/tests/host_test.py" "$out/host"
 python3 "$here/tests/host_test.py" "$out/host-sanitized" 7
+
+echo "host/c: the bench tool"
+# The two wait for most of their time, so they run at once.
+python3 "$here/tests/tool_test.py" "$out/tool" "$out/host" &
+plain=$!
+python3 "$here/tests/tool_test.py" "$out/tool-sanitized" "$out/host-sanitized"
+wait "$plain"
 
 echo "host/c: all tests passed"

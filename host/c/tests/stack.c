@@ -1,7 +1,5 @@
 /*
- * Measures the most stack that a call takes: the call runs on a stack of its own that was painted with a pattern, and the deepest byte
- * that has changed says how far it went. Arguments are counted, and so is what an inline function keeps on the stack, since they lie
- * there too. The calls themselves are in tests/stack_calls.c.
+ * Measures the most stack that a call takes, on a painted stack (tests/painted.h). The calls themselves are in tests/stack_calls.c.
  *
  * Usage: stack LEVEL, the level of optimisation of that file
  *
@@ -9,60 +7,13 @@
  */
 #define _DEFAULT_SOURCE
 
-#include "check.h"
+#include "painted.h"
 #include "stack.h"
-
-#include <ucontext.h>
-
-#define STACK_SIZE 32768u
 
 /* No call may take more, at any level of optimisation of its caller. */
 #define BOUND 1024u
 
 struct subject subject;
-
-static uint8_t stack[STACK_SIZE];
-static ucontext_t outside;
-static ucontext_t inside;
-
-/* Volatile, so that no compiler takes the calls into the function that makes them. */
-static void (*volatile operation)(void);
-static uint8_t pattern;
-static size_t untouched;
-
-/* Runs on the painted stack, and looks at it before the way back, which takes some of it too. */
-static void run_operation(void)
-{
-    size_t n = 0;
-
-    operation();
-    while (n < sizeof stack && stack[n] == pattern) {
-        n++;
-    }
-    untouched = n;
-}
-
-static size_t used_with(void (*op)(void), uint8_t paint)
-{
-    pattern = paint;
-    memset(stack, pattern, sizeof stack);
-    operation = op;
-    if (getcontext(&inside) != 0) {
-        give_up("getcontext");
-    }
-    inside.uc_stack.ss_sp = stack;
-    inside.uc_stack.ss_size = sizeof stack;
-    inside.uc_link = &outside;
-    makecontext(&inside, run_operation, 0);
-    if (swapcontext(&outside, &inside) != 0) {
-        give_up("swapcontext");
-    }
-    return sizeof stack - untouched;
-}
-
-static void nothing(void)
-{
-}
 
 enum {
     HANDLE_FRAME,
@@ -99,23 +50,14 @@ static const struct {
 };
 
 static size_t most[CALLS];
-static size_t base;
 
-/* Makes a call twice from the same state, over two patterns: the deepest byte may be the one or the other by chance. */
 static void measure(size_t i)
 {
-    static const uint8_t patterns[] = {0x5A, 0xC3};
     static struct subject before;
+    const size_t used = most_used(calls[i].call, &subject, &before, sizeof subject);
 
-    before = subject;
-    for (size_t n = 0; n < sizeof patterns; n++) {
-        size_t used;
-
-        subject = before;
-        used = used_with(calls[i].call, patterns[n]) - base;
-        if (used > most[i]) {
-            most[i] = used;
-        }
+    if (used > most[i]) {
+        most[i] = used;
     }
 }
 
@@ -237,10 +179,7 @@ int main(int argc, char **argv)
                                        0x43, 0x80, 0x84, 0x88, 0xA8, 0x44, 0xFF};
     const char *const level = argc > 1 ? argv[1] : "";
 
-    /* What getting onto the painted stack takes by itself, up to the return address of the function that makes the call, which counts. The
-       first run also settles what the system does once. */
-    (void)used_with(nothing, 0x5A);
-    base = used_with(nothing, 0x5A) - sizeof(void *);
+    start_painting();
     start();
     measure(VERSION);
     measure(NODE_CHECK);
