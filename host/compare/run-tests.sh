@@ -1,18 +1,22 @@
 #!/bin/sh
 # Holds the test run of the comparison: the tests of this package, and library and model compared
 # with a fixed seed and with one from the clock. (The model has tests of its own.)
-# The library has to be there: target/staticlib/libdriver.a, built by `rt staticlib driver`.
+# Both archives of the library have to be there: target/staticlib/libdriver.a, the board's half, built
+# by `rt staticlib driver`, and target/staticlib/libtool.a, the tool's, built by `rt staticlib tool`.
 set -eu
 cd "$(dirname "$0")/../.."
 
 CARGO_TARGET_DIR="$PWD/target/host-rust"
 export CARGO_TARGET_DIR
-calls=20000000
+# Of 21 calls one is for the tool's half.
+calls=21000000
 
-if [ ! -f target/staticlib/libdriver.a ]; then
-    echo "host/compare: target/staticlib/libdriver.a is missing" >&2
-    exit 1
-fi
+for half in driver tool; do
+    if [ ! -f "target/staticlib/lib$half.a" ]; then
+        echo "host/compare: target/staticlib/lib$half.a is missing: build it with \`rt staticlib $half\`" >&2
+        exit 1
+    fi
+done
 
 # The tests are built without optimisation: that is quicker than running them is slow, and
 # arithmetic that overflows is found.

@@ -26,9 +26,13 @@ two-bytes : receivedIn (0x80 ∷ 0x00 ∷ []) ≡ NotReceived
 unfolding receivedIn
 two-bytes = refl
 
--- ---- Rejected: one byte of code, which is the high one, two, and 64 and 65 bytes behind them
+-- ---- Rejected: no byte of code, one, which is the high one, two, and 64 and 65 bytes behind them
 
-one-byte : rejectionIn (0x20 ∷ []) ≡ Rejection 0x2000 2 0
+no-code : rejectionIn [] ≡ Rejection 0 0 0
+unfolding rejectionIn
+no-code = refl
+
+one-byte : rejectionIn (0x20 ∷ []) ≡ Rejection 0x2000 1 0
 unfolding rejectionIn
 one-byte = refl
 

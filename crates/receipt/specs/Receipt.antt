@@ -1,6 +1,6 @@
 -- Source document 004, 4.2 and 4.3, and document 02, C-12: what a tool reads in the content of Received OK and of Rejected, which is what stands
 -- behind the aliases.
-use Prim.Native.Nat.{ℕ, _+_, _-_, _*_, _%_}
+use Prim.Native.Nat.{ℕ, _+_, _-_, _*_, _%_, min}
 use mathlib.Core.Bool.{cond}
 use mathlib.Core.List.{List}
 use lib.Dec.{leb}
@@ -18,6 +18,12 @@ byteIn content i = getD content i 0
 unfoldable pub receivedIn : List ℕ → ReceivedIn
 receivedIn content = cond (leb (length content) 1) (Received (leb 0x80 (byteIn content 0)) (byteIn content 0 % 16)) NotReceived
 
+-- How many bytes of the code there are: further bytes stand behind these.
+abbrev pub codeLength : List ℕ → ℕ
+codeLength content = min 2 (length content)
+
 -- Two bytes of code, most significant first, of which one byte is the high one; and then up to 64 further bytes. W3 for "a Rejected over 66".
 unfoldable pub rejectionIn : List ℕ → RejectionIn
-rejectionIn content = cond (leb (length content) 66) (Rejection (byteIn content 0 * 256 + byteIn content 1) 2 (length content - 2)) NotRejection
+rejectionIn content =
+    cond (leb (length content) 66)
+    (Rejection (byteIn content 0 * 256 + byteIn content 1) (codeLength content) (length content - codeLength content)) NotRejection

@@ -1,8 +1,8 @@
 // The tool's readers of Received OK and Rejected: every field of their contents, or none, which is W3.
 ghost use mathlib.Core.Path.{_≡_};
-ghost use Prim.Native.Nat.{_-_};
+ghost use Prim.Native.Nat.{_≤_};
 ghost use lib.ListN.{length};
-ghost use Rattle.receipt.specs.Receipt.{byteIn, receivedIn, rejectionIn};
+ghost use Rattle.receipt.specs.Receipt.{byteIn, receivedIn, codeLength, rejectionIn};
 
 // Received OK: whether a reply is to follow, and the timeout value, 0 to 15.
 pub enum ReceivedIn {
@@ -41,12 +41,11 @@ pub fn read_received_ok(content: &[u8]) -> ReceivedIn
     }
 }
 
-// How many bytes stand behind the code.
-fn further(content: &[u8]) -> usize
-    ensures { λ r. ⌜ r ≡ length (now (content .entry)) - 2 ⌝ }
+// How many bytes of the code there are.
+fn code_length(content: &[u8]) -> usize
+    ensures { λ r. ⌜ (r ≡ codeLength (now (content .entry))) × (r ≤ length (now (content .entry))) ⌝ }
 {
-    let length = content.len();
-    if length < 2 { 0 } else { length - 2 }
+    if content.len() < 2 { content.len() } else { 2 }
 }
 
 // Reads the content of a Rejected.
@@ -56,9 +55,10 @@ pub fn read_rejected(content: &[u8]) -> RejectionIn
     if 66 < content.len() {
         return RejectionIn::NotRejection;
     }
+    let start = code_length(content);
     RejectionIn::Rejection {
         code: replies::two_bytes(byte_in(content, 0), byte_in(content, 1)),
-        start: 2,
-        length: further(content),
+        start: start,
+        length: content.len() - start,
     }
 }

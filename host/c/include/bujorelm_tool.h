@@ -119,7 +119,7 @@ struct bujorelm_acknowledged {
     uint8_t timeout;
 };
 
-/* A Rejected: W3, or none, the code, and the bytes behind the code, which are always given and may be none. */
+/* A Rejected: W3, or none, the code, and the bytes behind the code, which are always given and may be none: then they start at the end. */
 struct bujorelm_rejection {
     enum bujorelm_refusal refusal;
     uint16_t code;

@@ -307,7 +307,7 @@ static void test_rejected(void)
     const struct bujorelm_rejection nothing = bujorelm_read_rejected(NULL, 0);
     uint8_t bytes[300];
 
-    CHECK(nothing.refusal == BUJORELM_REFUSAL_NONE && nothing.code == 0 && same_bytes(nothing.further, at(2, 0)));
+    CHECK(nothing.refusal == BUJORELM_REFUSAL_NONE && nothing.code == 0 && same_bytes(nothing.further, at(0, 0)));
     random_bytes(bytes, sizeof bytes);
     for (size_t len = 0; len <= sizeof bytes; len++) {
         struct guarded content = guarded_new(len, len % 2 == 0);
@@ -320,7 +320,7 @@ static void test_rejected(void)
         read = bujorelm_read_rejected(content.bytes, len);
         if (len <= 66) {
             CHECK(read.refusal == BUJORELM_REFUSAL_NONE && read.code == (high << 8 | low));
-            CHECK(same_bytes(read.further, at(2, len > 2 ? len - 2 : 0)));
+            CHECK(same_bytes(read.further, len > 2 ? at(2, len - 2) : at(len, 0)));
         } else {
             CHECK(read.refusal == BUJORELM_REFUSAL_W3 && read.code == 0 && same_bytes(read.further, none));
         }

@@ -1,10 +1,12 @@
 //! Holds the edge to the library: its C functions, and safe functions around them. Everything
-//! unsafe of this package is here.
+//! unsafe of this package is here, and in the module for the tool's half.
 //!
 //! All that a board has is lent as bytes: a slice goes over as a pointer and a length, and what
 //! has one size as a pointer alone. What the bytes stand for is in `layout`.
 
 #![allow(unsafe_code)]
+
+pub mod tool;
 
 /// The places of a reception state.
 pub const PLACES: usize = 8;
@@ -49,6 +51,12 @@ pub type Pool = [u8; POOL_BYTES];
 pub struct Flag(u8);
 
 impl Flag {
+    /// The flag that says this.
+    #[must_use]
+    pub const fn of(yes: bool) -> Self {
+        Self(yes as u8)
+    }
+
     /// What the flag says.
     ///
     /// # Panics

@@ -649,6 +649,12 @@ impl Tool {
         }
     }
 
+    /// Its alias.
+    #[must_use]
+    pub const fn source(&self) -> u16 {
+        self.source
+    }
+
     /// The kind and data of the frame that is next by the rules.
     fn regular(&mut self, random: &mut Random, board: &Board) -> (u32, Vec<u8>) {
         let Some(sent) = self.sent else {

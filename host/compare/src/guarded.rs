@@ -22,6 +22,7 @@ impl Guarded {
     /// Takes other bytes, of any length.
     pub fn set(&mut self, bytes: &[u8]) {
         self.all.clear();
+        self.all.reserve(2 * GUARD + bytes.len());
         self.all.resize(GUARD, MARK);
         self.all.extend_from_slice(bytes);
         self.all.resize(self.all.len() + GUARD, MARK);
@@ -65,6 +66,13 @@ impl Guarded {
         let behind = &rest[rest.len() - GUARD..];
         before == [MARK; GUARD] && behind == [MARK; GUARD]
     }
+
+    /// Changes the byte behind the bytes, as a library would that writes too far.
+    #[cfg(test)]
+    pub fn overrun(&mut self) {
+        let end = self.all.len() - GUARD;
+        self.all[end] ^= 1;
+    }
 }
 
 #[cfg(test)]
@@ -76,8 +84,7 @@ mod tests {
         let mut guarded = Guarded::new(b"abc");
         guarded.bytes_mut()[2] = 0;
         assert!(guarded.is_intact());
-        let end = guarded.all.len() - super::GUARD;
-        guarded.all[end] = 0;
+        guarded.overrun();
         assert!(!guarded.is_intact());
     }
 }

@@ -13,4 +13,5 @@ pub mod random;
 pub mod setup;
 pub mod small;
 pub mod tally;
+pub mod tool;
 pub mod world;

@@ -34,13 +34,17 @@ fn main() -> ExitCode {
         return ExitCode::from(2);
     };
     println!("compare: seed {seed}, {calls} calls");
-    if ffi::version() != ffi::VERSION {
-        println!(
-            "DIFFERENCE: the library's edge has version {:08X}, expected {:08X}",
-            ffi::version(),
-            ffi::VERSION
-        );
-        return ExitCode::FAILURE;
+    for (half, version, expected) in [
+        ("board", ffi::version(), ffi::VERSION),
+        ("tool", ffi::tool::version(), ffi::tool::VERSION),
+    ] {
+        if version != expected {
+            println!(
+                "DIFFERENCE: the library's edge for a {half} has version {version:08X}, expected \
+                 {expected:08X}"
+            );
+            return ExitCode::FAILURE;
+        }
     }
     let started = Instant::now();
     let mut random = Random::new(seed);

@@ -5,7 +5,7 @@ use std::fmt::Write;
 
 use crate::answer::Answer;
 use crate::faults::{is_damaged, Faults, Wrong};
-use crate::ffi::{self, Lock, Places, Pool, FRAME_SIZE, PLACES, PLACE_BYTES, SENT_SIZE};
+use crate::ffi::{self, Frame, Lock, Places, Pool, FRAME_SIZE, PLACES, PLACE_BYTES, SENT_SIZE};
 use crate::generate::{damage_places, rewrite_places, spoil_board, Board, Incoming};
 use crate::guarded::Guarded;
 use crate::layout::{self, TableKind};
@@ -156,7 +156,7 @@ pub fn for_model(places: &Places, pool: &Pool) -> Reception {
 }
 
 /// Unfinished datagrams in an order that does not depend on places.
-fn in_order<'p>(entries: impl Iterator<Item = Unfinished<'p>>) -> Vec<Unfinished<'p>> {
+pub(crate) fn in_order<'p>(entries: impl Iterator<Item = Unfinished<'p>>) -> Vec<Unfinished<'p>> {
     let mut entries: Vec<_> = entries.collect();
     entries.sort_unstable();
     entries
@@ -209,6 +209,36 @@ impl Setup {
     #[must_use]
     pub const fn board(&self) -> &Board {
         &self.board
+    }
+
+    /// The library's flash.
+    #[must_use]
+    pub fn flash(&self) -> &[u8] {
+        self.library.flash.bytes()
+    }
+
+    /// The library's memory.
+    #[must_use]
+    pub fn memory(&self) -> &[u8] {
+        self.library.memory.bytes()
+    }
+
+    /// The library's lock memory.
+    #[must_use]
+    pub fn lock(&self) -> &Lock {
+        self.library.lock.array()
+    }
+
+    /// The library's reply buffer.
+    #[must_use]
+    pub fn reply(&self) -> &[u8] {
+        self.library.reply.bytes()
+    }
+
+    /// The first so many frames of those that the library has made in the last call for a frame.
+    pub fn sent(&self, count: usize) -> impl Iterator<Item = Frame> + '_ {
+        let (frames, _) = self.library.frames.bytes().as_chunks();
+        frames.iter().take(count).map(layout::frame_in)
     }
 
     /// The same with its board spoiled so many times.
@@ -304,19 +334,20 @@ impl Setup {
         })
     }
 
-    /// Makes the call for a whole datagram to both.
+    /// Makes the call for a whole datagram to both, and gives the answer that both agree on.
     pub fn datagram(
         &mut self,
         datagram: &[u8],
         reply: &[u8],
         tally: &mut Tally,
-    ) -> Result<(), String> {
+    ) -> Result<Answer, String> {
         self.begin(reply);
         let numbers = self.library.datagram(&self.board, datagram);
+        let answer = Answer::from(numbers);
         let done = Done {
             by: By::Whole,
             joined: false,
-            answer: Answer::from(numbers),
+            answer,
             model_answer: self.model.datagram(&self.board, datagram),
             count: usize::from(numbers.frame_count),
             model_count: 0,
@@ -324,7 +355,7 @@ impl Setup {
             reply,
             room: &NO_ROOM,
         };
-        self.compare(&done, tally).map_err(|what| {
+        self.compare(&done, tally).map(|()| answer).map_err(|what| {
             let mut report = format!("call for a whole datagram: {what}\n");
             let _ = writeln!(report, "datagram          {}", hex(datagram));
             self.describe(&mut report, &done);
@@ -347,7 +378,11 @@ impl Setup {
                 "a refused call changed the reception state",
             )?;
         } else {
-            compare_places(before, library, tally)?;
+            compare_places(
+                (&before.places, &before.pool),
+                (library.places.array(), library.pool.array()),
+                |case| tally.count(case),
+            )?;
         }
         compare_memory(done.answer, before, library)?;
         self.compare_untouched(done)?;
@@ -565,7 +600,8 @@ impl Done<'_> {
     }
 }
 
-fn same(same: bool, what: &'static str) -> Result<(), &'static str> {
+/// What is said where something is not the same.
+pub(crate) fn same(same: bool, what: &'static str) -> Result<(), &'static str> {
     if same {
         Ok(())
     } else {
@@ -598,25 +634,24 @@ fn compare_memory(
 
 /// The places after a frame that is not refused: at most one changes, that one has the canonical
 /// bytes of what it holds, and every other place keeps all its bytes, and its part of the pool.
-fn compare_places(
-    before: &Before,
-    library: &Library,
-    tally: &mut Tally,
+pub(crate) fn compare_places(
+    before: (&Places, &Pool),
+    after: (&Places, &Pool),
+    mut count: impl FnMut(Case),
 ) -> Result<(), &'static str> {
-    let places = library.places.array();
     let mut changed = 0;
     for index in 0..PLACES {
-        let old = layout::place(&before.places, index);
-        let new = layout::place(places, index);
+        let old = layout::place(before.0, index);
+        let new = layout::place(after.0, index);
         let (was, is) = (layout::held(old), layout::held(new));
         if was == is {
             same(old == new, "a place that did not change has other bytes")?;
             same(
-                pool_of(&before.pool, index) == pool_of(library.pool.array(), index),
+                pool_of(before.1, index) == pool_of(after.1, index),
                 "the pool is changed for a place that did not change",
             )?;
             if old != layout::canonical(was) {
-                tally.count(if was.is_some() {
+                count(if was.is_some() {
                     Case::HeldKept
                 } else {
                     Case::FreeKept
@@ -630,7 +665,7 @@ fn compare_places(
             "a place that changed has other bytes than it should",
         )?;
         if old != layout::canonical(was) {
-            tally.count(match (was, is) {
+            count(match (was, is) {
                 (None, _) => Case::PlaceOpened,
                 (Some(_), Some(_)) => Case::PlaceAppended,
                 (Some(_), None) => Case::PlaceFreed,

@@ -6,23 +6,26 @@ use crate::faults::{limit_number, Faults, Wrong, LIMITS};
 use crate::ffi::MOST_SPACES;
 use crate::generate::COMMANDS;
 use crate::layout::TableKind;
+use crate::tool::cases::ToolTally;
 
+/// Makes an enum of cases, with their names and with the calls that reach them.
 macro_rules! cases {
-    ($($(#[$doc:meta])* $name:ident = $text:literal, $here:ident;)*) => {
+    ($case:ident; $($(#[$doc:meta])* $name:ident = $text:literal, $here:ident;)*) => {
         /// A case that has to be reached.
         #[derive(Clone, Copy, Debug, PartialEq, Eq)]
-        pub enum Case { $($(#[$doc])* $name,)* }
+        pub enum $case { $($(#[$doc])* $name,)* }
 
-        impl Case {
-            const ALL: &'static [(Self, &'static str, Reach)] =
-                &[$((Self::$name, $text, Reach::$here),)*];
+        impl $case {
+            const ALL: &'static [(Self, &'static str, $crate::tally::Reach)] =
+                &[$((Self::$name, $text, $crate::tally::Reach::$here),)*];
         }
     };
 }
+pub(crate) use cases;
 
 /// By which calls a case can be reached.
 #[derive(Clone, Copy, PartialEq, Eq)]
-enum Reach {
+pub(crate) enum Reach {
     /// By frames and by whole datagrams.
     Both,
     /// By frames alone.
@@ -32,6 +35,7 @@ enum Reach {
 }
 
 cases! {
+    Case;
     /// B11.
     B11 = "B11 refused", Both;
     /// B12.
@@ -269,6 +273,8 @@ pub struct Tally {
     /// Of the refused spaces, by their position.
     positions: [[u64; MOST_SPACES]; 2],
     commands: [[u64; 256]; 2],
+    /// Of the tool's half.
+    pub tool: ToolTally,
 }
 
 impl Default for Tally {
@@ -278,6 +284,7 @@ impl Default for Tally {
             limits: [[0; SETS]; 2],
             positions: [[0; MOST_SPACES]; 2],
             commands: [[0; 256]; 2],
+            tool: ToolTally::default(),
         }
     }
 }
@@ -441,12 +448,13 @@ impl Tally {
             let name = format!("command 0x{command:02X}, received OK");
             all &= print_row(&name, counts, Reach::Both);
         }
+        all &= self.tool.print();
         all
     }
 }
 
 /// Prints the counts of a case; false where it was not reached as it has to be.
-fn print_row(name: &str, counts: [u64; 2], reach: Reach) -> bool {
+pub(crate) fn print_row(name: &str, counts: [u64; 2], reach: Reach) -> bool {
     let [frames, whole] = counts;
     let missing = frames == 0 || (reach == Reach::Both && whole == 0);
     let mark = if missing { "  NEVER REACHED" } else { "" };

@@ -1,5 +1,5 @@
-//! Holds a world: a board, the tools that send to it, and calls one after the other, so that
-//! memory, lock and unfinished datagrams have a history.
+//! Holds a world: a board, the tools that send to it, a tool that listens, and calls one after the
+//! other, so that memory, lock and unfinished datagrams have a history.
 
 use crate::answer::Answer;
 use crate::ffi::{PLACES_SIZE, SENT_SIZE};
@@ -9,11 +9,17 @@ use crate::random::Random;
 use crate::setup::Setup;
 use crate::small;
 use crate::tally::Tally;
+use crate::tool::join::Listener;
+use crate::tool::{self, Library};
+
+/// How many calls for the tool's half there are for one hundred of the others.
+const TOOL_CALLS: usize = 5;
 
 /// A board and its tools.
 pub struct World {
     setup: Setup,
     tools: Vec<Tool>,
+    listener: Listener,
     calls_left: usize,
 }
 
@@ -30,6 +36,7 @@ impl World {
         Self {
             setup: Setup::new(random, board, places),
             tools,
+            listener: Listener::new(random),
             calls_left: random.between(50, 600),
         }
     }
@@ -43,7 +50,8 @@ impl World {
     /// Makes one call to both sides; the text says what differs.
     pub fn call(&mut self, random: &mut Random, tally: &mut Tally) -> Result<(), String> {
         self.calls_left -= 1;
-        match random.below(100) {
+        match random.below(100 + TOOL_CALLS) {
+            100.. => tool::call(&Library, &mut self.setup, &mut self.listener, random, tally),
             0..=52 => {
                 if random.once_in(8) {
                     self.setup.rewrite_places(random);
@@ -62,6 +70,7 @@ impl World {
                 let datagram = datagram(random, self.setup.board());
                 self.setup
                     .datagram(&datagram, &buffer(random, false), tally)
+                    .map(|_| ())
             }
             77..=84 => self.spoilt_call(random, tally),
             85..=87 => small::cut(random, tally),
@@ -96,10 +105,9 @@ impl World {
             let index = random.below(self.tools.len());
             let frame = self.tools[index].clone().frame(random, self.setup.board());
             let reply = buffer(random, short);
-            setup
-                .frame(&frame, &reply, &room(random), tally)
-                .map(|_| ())
+            setup.frame(&frame, &reply, &room(random), tally)
         }
+        .map(|_| ())
     }
 }
 

@@ -16,9 +16,16 @@ returns-2 : tie.Need-returns-2
 unfolding rejectionIn
 returns-2 c =
     let content = c .before .before .before .before .before .before .args .content .now in
-    rw (c .further .ensures, c .before .two-bytes .ensures, c .before .before .byte-in2 .ensures, c .before .before .before .byte-in .ensures, le-leb (length content) 66 (omega (arith, c .before .before .before .before .if1 .left)))
+    rw (c .two-bytes .ensures, c .before .byte-in2 .ensures, c .before .before .byte-in .ensures, c .before .before .before .code-length .ensures .0, le-leb (length content) 66 (omega (arith, c .before .before .before .before .if1 .left)))
 
 pub read-rejected-spec : {M : Type 1} → statement M
 read-rejected-spec =
     tie.close
-    (tie.spec returns (λ c κs. search needs) (λ c κs. search needs) (λ c κs. search needs) (λ c κs. search needs) returns-2)
+    (tie.spec
+    returns
+    (λ c κs. search needs)
+    (λ c κs. search needs)
+    (λ c κs. search needs)
+    (λ c κs. search needs)
+    (λ c. search needs)
+    returns-2)
