@@ -90,7 +90,7 @@ AllInRange = (d : List ℕ) (form : Form) (q : Request) → decode d ≡ request
 
 -- ---- what the code gives back
 
--- The answer of the code: OutOfRange is W1, NoRoom is W2, and else "the answer is the command's length".
+-- The answer of the code: OutOfRange is W1, NoRoom is W2, and else the answer is the length of the command.
 abbrev pub answerOf : Writing → Written
 answerOf w1 = OutOfRange
 answerOf w2 = NoRoom
