@@ -1,20 +1,21 @@
 -- The form in which the board reads a request names the request's space.
 -- Assumes nothing.
-use Prim.Native.Nat.{ℕ, _%_, _≤_, _<_}
+use Prim.Native.Nat.{ℕ, _%_, _<_}
 use mathlib.Core.Path.{_≡_, refl}
 use mathlib.Core.Bool.{Bool, true, not, _&&_, _||_}
 use mathlib.Core.List.{List}
 use native.Mathlib.Omega.{arith}
-use lib.Dec.{leb, ltb, eqb}
+use lib.Dec.{ltb, eqb}
 use lib.ListN.{length, getD, drop}
-use borrow.Author.Tests.{leb-true, lt-leb}
-use Rattle.buffer.proofs.Choice.{cond-elim, and-right}
+use borrow.Author.Tests.{lt-leb}
+use Rattle.buffer.proofs.Choice.{cond-elim}
 use Rattle.fields.specs.Commands.{Request, read, write, writeMasked, options, information, reserve, updateComplete, pairsOf, within, kindOf, lowForm, formIn, spaceOf, addressOf, restOf}
 use Rattle.fields.specs.declared.Form.{Form}
 use Rattle.fields.specs.declared.Form.the-variants.{NoSpace, Byte6, Fd, Fe, Ff}
 use Rattle.limits.specs.Limits.{countFits, bytesFit, pairsFit}
 use Rattle.command.specs.Decoding.{Reading, rejected, request, orWrong, countOf, decodeRead, decodeWrite, decodeMasked, decodeKind, decode}
 use Rattle.replies.specs.ReplyForms.{Names}
+use Rattle.replies.proofs.SoundLaws.{within-true}
 
 abbrev pub Named : Form → Request → Type 0
 Named form (read space address count) = Names form space
@@ -41,9 +42,6 @@ names d h = rw (lt-leb 0x80 (getD d 1 0) h) (low-names d (getD d 1 0 % 4))
 or-wrong : (t : Bool) (f : Form) (q : Request) → Named f q → NamedIn (orWrong t (request f q))
 or-wrong t f q n = cond-elim NamedIn t {a = request f q} {b = rejected 0x1080} (λ _. n) (λ _. tt)
 
-below : (low high c : ℕ) → within low high c ≡ true → c ≤ high
-below low high c e = leb-true c high (and-right (leb low c) _ e)
-
 module _ (d : List ℕ) where
   read-named : getD d 1 0 < 0x80 → NamedIn (decodeRead d)
   unfolding decodeRead
@@ -61,9 +59,9 @@ module _ (d : List ℕ) where
   unfolding kindOf decodeKind
   kind-named =
       let c = getD d 1 0 in
-      cond-elim (λ k. NamedIn (decodeKind k d)) (within 0x40 0x43 c) (λ t. read-named (omega (arith, below 0x40 0x43 c t)))
-      (λ _. cond-elim (λ k. NamedIn (decodeKind k d)) (within 0x00 0x03 c) (λ t. write-named (omega (arith, below 0x00 0x03 c t)))
-      (λ _. cond-elim (λ k. NamedIn (decodeKind k d)) (within 0x08 0x0B c) (λ t. masked-named (omega (arith, below 0x08 0x0B c t)))
+      cond-elim (λ k. NamedIn (decodeKind k d)) (within 0x40 0x43 c) (λ t. read-named (omega (arith, within-true 0x40 0x43 c t)))
+      (λ _. cond-elim (λ k. NamedIn (decodeKind k d)) (within 0x00 0x03 c) (λ t. write-named (omega (arith, within-true 0x00 0x03 c t)))
+      (λ _. cond-elim (λ k. NamedIn (decodeKind k d)) (within 0x08 0x0B c) (λ t. masked-named (omega (arith, within-true 0x08 0x0B c t)))
       (λ _. cond-elim (λ k. NamedIn (decodeKind k d)) (eqb c 0x80) (λ _. or-wrong (eqb (length d) 2) NoSpace options tt)
       (λ _. cond-elim (λ k. NamedIn (decodeKind k d)) (eqb c 0x84) (λ _. or-wrong (eqb (length d) 3) NoSpace (information (getD d 2 0)) tt)
       (λ _. cond-elim (λ k. NamedIn (decodeKind k d)) (eqb c 0x88) (λ _. or-wrong (eqb (length d) 8) NoSpace (reserve (drop 2 d)) tt)

@@ -21,7 +21,8 @@ use Rattle.replies.specs.declared.ReplyIn.the-variants as found
 use Rattle.replies.proofs.TextLaws.{text-sound}
 use Rattle.replies.proofs.FrontLaws.{bytes-back, two-back, six-first, front-back}
 
-within-true : (low high c : ℕ) → within low high c ≡ true → (low ≤ c) × (c ≤ high)
+-- a number that passes the test of a range is in it
+pub within-true : (low high c : ℕ) → within low high c ≡ true → (low ≤ c) × (c ≤ high)
 within-true low high c e = (leb-true low c (and-left (leb low c) _ e), leb-true c high (and-right (leb low c) _ e))
 
 two-first : (d : List ℕ) (i : ℕ) → i + 2 ≤ length d → drop i d ≡ getD d i 0 ∷ getD d (i + 1) 0 ∷ drop (i + 2) d

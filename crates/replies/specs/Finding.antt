@@ -64,9 +64,13 @@ findRead d =
 unfoldable pub findWritten : List ℕ → ReplyIn
 findWritten d = orNone (eqb (length d) (headIn d)) (found.Written (formIn d) (spaceOf (formIn d) d) (addressOf d))
 
+-- A number of two bytes from an index on, most significant first.
+abbrev pub twoBytesAt : ℕ → List ℕ → ℕ
+twoBytesAt i d = getD d i 0 * 256 + getD d (i + 1) 0
+
 -- The code of a failure, two bytes, and a message behind it.
 abbrev pub codeIn : List ℕ → ℕ
-codeIn d = getD d (headIn d) 0 * 256 + getD d (headIn d + 1) 0
+codeIn d = twoBytesAt (headIn d) d
 
 unfoldable pub failureFits : List ℕ → Bool
 failureFits d = leb (headIn d + 2) (length d) && (leb (length d - (headIn d + 2)) 63 && isText (drop (headIn d + 2) d))
@@ -86,7 +90,7 @@ lowestIn d = cond (eqb (length d) 6) NoLowest (LowestSpace (getD d 6 0) (textFro
 unfoldable pub findOptions : List ℕ → ReplyIn
 findOptions d =
     orNone (leb 6 (length d) && isText (drop 7 d))
-    (found.Options (getD d 2 0 * 256 + getD d 3 0) (getD d 4 0) (getD d 5 0) (lowestIn d))
+    (found.Options (twoBytesAt 2 d) (getD d 4 0) (getD d 5 0) (lowestIn d))
 
 -- Whether a space's lowest address is given, and where its description begins.
 abbrev pub isGiven : List ℕ → Bool
