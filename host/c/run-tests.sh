@@ -1,6 +1,6 @@
 #!/bin/sh
-# Builds and runs all tests of the C side: the headers in C and C++, the library through them (plain, with sanitizers, under valgrind), the
-# stack that a call takes, the examples, docs/DRIVER.md and docs/TOOL.md, the reference host, and the bench tool.
+# Builds and runs all tests of the C side: the headers in C and C++, what is compiled for digits, the library through its header (plain, with
+# sanitizers, under valgrind), the stack that a call takes, the examples, docs/DRIVER.md and docs/TOOL.md, the reference host, and the bench tool.
 #
 # usage: host/c/run-tests.sh [ROOT]
 #
@@ -22,7 +22,7 @@ fail() {
 
 [ -f "$library" ] || fail "$library is not there: run rt staticlib driver"
 [ -f "$tool" ] || fail "$tool is not there: run rt staticlib tool"
-for program in "${CC:=cc}" "${CXX:=c++}" python3 valgrind nm; do
+for program in "${CC:=cc}" "${CXX:=c++}" python3 valgrind nm objdump; do
     command -v "$program" > /dev/null || fail "$program is not there"
 done
 mkdir -p "$out"
@@ -81,6 +81,7 @@ outside() {
 }
 [ "$(outside "$library")" = "memcpy memset " ] || fail "what libdriver.a calls outside itself is not what the header says: $(outside "$library")"
 [ -z "$(outside "$tool")" ] || fail "libtool.a calls outside itself, which the header excludes: $(outside "$tool")"
+python3 "$here/tests/digits_test.py" "$root" "$out"
 compile library "-O2 -g" tests/library.c
 "$out/library"
 compile library-sanitized "$sanitizers" tests/library.c

@@ -21,8 +21,8 @@ use Rattle.call.specs.DatagramCall.{datagramHouse}
 use Rattle.call.specs.FrameCall.{frameCall}
 use Rattle.sending.specs.Sending.{framesToSend}
 use Rattle.digit.specs.Digit.{digitValue, digitOf}
-use Rattle.hex.specs.Digits.{digitsOf, hexDigits}
-use Rattle.unhex.specs.Reading.{allDigits, bytesIn, numberFrom}
+use Rattle.hex.specs.Digits.{digitsOf, hexDigits, allDigits, numberIn}
+use Rattle.unhex.specs.Reading.{bytesIn}
 use Rattle.gridconnect.specs.Line.{lineOf, frameText}
 use Rattle.marks.specs.Form.{formed}
 use Rattle.parsing.specs.Parsing.{parseOf}
@@ -33,5 +33,5 @@ use Rattle.session.specs.Session.{answerLines}
 use Rattle.demonstration.specs.PaperSession.{PaperSession}
 
 pub paper-session : PaperSession
-unfolding putAt placed kindOf addressed roleOf frameOf findSpace among spacesHouse descriptionHouse pairsOf commands.kindOf restOf decodeRead decodeWrite decodeMasked decodeKind decode handleFrame placesIn isFor joinSound receive restFrames framesOf cutFrames receivedOk rejectedWith replyHead readResult writeResult memoryAfter masked storeMasked perform handle datagramHouse frameCall framesToSend digitValue digitOf allDigits digitsOf bytesIn hexDigits numberFrom lineOf formed parseOf frameText framesText completed unfinished endLine answerLine answerLines
+unfolding putAt placed kindOf addressed roleOf frameOf findSpace among spacesHouse descriptionHouse pairsOf commands.kindOf restOf decodeRead decodeWrite decodeMasked decodeKind decode handleFrame placesIn isFor joinSound receive restFrames framesOf cutFrames receivedOk rejectedWith replyHead readResult writeResult memoryAfter masked storeMasked perform handle datagramHouse frameCall framesToSend digitValue digitOf allDigits digitsOf bytesIn hexDigits numberIn lineOf formed parseOf frameText framesText completed unfinished endLine answerLine answerLines
 paper-session = refl

@@ -1,13 +1,13 @@
--- Laws of one digit: its value by range, a digit as a sum, and the value of the digit of a value.
+-- Laws of one digit: its value by range, a digit as a sum, the value of the digit of a value, and the digit of the value of a digit.
 -- Assumes nothing.
 use Prim.Native.Nat.{ℕ, _+_, _-_, _*_, _/_, _%_, _^_, _≤_, _<_}
 use mathlib.Core.Path.{_≡_, sym, ap, _∙_}
 use mathlib.Core.Bool.{true, false, _&&_}
 use native.Mathlib.Omega.{arith}
-use lib.Bits.{bitAnd, and-block, and-mask}
+use lib.Bits.{bitAnd, and-block, and-high}
 use lib.Dec.{leb, ltb}
 use borrow.Author.Tests.{le-leb, lt-leb, leb-true, ltb-true, ltb-false}
-use Rattle.buffer.proofs.Choice.{by-test}
+use Rattle.buffer.proofs.Choice.{and-left, and-right, by-test}
 use Rattle.digit.specs.Digit.{digitValue, digitOf}
 
 module _ (low high c : ℕ) where
@@ -25,9 +25,12 @@ pub is-letter : (c : ℕ) → 65 ≤ c → c ≤ 70 → c - 65 + 10 ≡ digitVal
 unfolding digitValue
 is-letter c h k = simp (outside 48 57 c (λ _. omega arith), inside 65 70 c h k)
 
-pub is-other : (c : ℕ) → (48 ≤ c → 57 < c) → (65 ≤ c → 70 < c) → 16 ≡ digitValue c
+no-digit : (c : ℕ) → (leb 48 c && leb c 57) ≡ false → (leb 65 c && leb c 70) ≡ false → 16 ≡ digitValue c
 unfolding digitValue
-is-other c h k = simp (outside 48 57 c h, outside 65 70 c k)
+no-digit c e f = rw (e, f)
+
+pub is-other : (c : ℕ) → (48 ≤ c → 57 < c) → (65 ≤ c → 70 < c) → 16 ≡ digitValue c
+is-other c h k = no-digit c (outside 48 57 c h) (outside 65 70 c k)
 
 module _ (v : ℕ) (h : v < 16) where
   -- a digit as a sum: the letters stand 7 further on
@@ -47,17 +50,24 @@ module _ (v : ℕ) (h : v < 16) where
   pub digit-small : leb (digitValue (digitOf v)) 15 ≡ true
   digit-small = let e = value in le-leb (digitValue (digitOf v)) 15 (omega arith)
 
-even-bit : (z w : ℕ) → w < 2 → bitAnd (z * 16 + w) 1 ≡ w
-even-bit z w h = and-mask (z * 16 + w) 1 ∙ omega arith
+-- a byte that has a value is that value's digit
+pub digit-back : (c : ℕ) → digitValue c ≤ 15 → digitOf (digitValue c) ≡ c
+digit-back c h =
+    let s = digit-sum (digitValue c) (omega arith) in
+    by-test (leb 48 c && leb c 57)
+    (λ e. let l = leb-true 48 c (and-left (leb 48 c) (leb c 57) e) in let u = leb-true c 57 (and-right (leb 48 c) (leb c 57) e) in let v = is-decimal c l u in omega arith)
+    (λ e. by-test (leb 65 c && leb c 70)
+    (λ f. let l = leb-true 65 c (and-left (leb 65 c) (leb c 70) f) in let u = leb-true c 70 (and-right (leb 65 c) (leb c 70) f) in let v = is-letter c l u in omega arith)
+    (λ f. let v = no-digit c e f in absurd (omega arith)))
 
-one-bit : (p : ℕ) → p < 2 → bitAnd p 1 ≡ p
-one-bit p h = and-mask p 1 ∙ omega arith
+-- the bit for 16 of a number below 32
+bit-of-16 : (n : ℕ) → n < 32 → bitAnd n 16 ≡ n / 16 * 16
+bit-of-16 n h = and-high n 1 4 ∙ omega arith
 
 -- both digits of a byte at once: which of them are letters
-pub letters : (b x : ℕ) → b < 256 → x ≡ b / 16 + b % 16 * 256 → bitAnd ((x + 1542) / 16) 257 ≡ (b / 16 + 6) / 16 + (b % 16 + 6) / 16 * 256
+pub letters : (b x : ℕ) → b < 256 → x ≡ b / 16 + b % 16 * 256 → bitAnd (x + 0x0606) 0x1010 ≡ (b / 16 + 6) / 16 * 16 + (b % 16 + 6) / 16 * 4096
 letters b x h e =
-    let p : ℕ = (b % 16 + 6) / 16 in
-    let z : ℕ = (b % 16 + 6) % 16 in
-    let w : ℕ = (b / 16 + 6) / 16 in
-    let y : (x + 1542) / 16 ≡ p * 2 ^ 8 + (z * 16 + w) = omega arith in
-    ap (λ (n : ℕ). bitAnd n 257) y ∙ and-block 8 p 1 (z * 16 + w) 1 (omega arith) (omega arith) ∙ omega (arith, one-bit p (omega arith), even-bit z w (omega arith))
+    let p : ℕ = b % 16 + 6 in
+    let w : ℕ = b / 16 + 6 in
+    let y : x + 0x0606 ≡ p * 2 ^ 8 + w = omega arith in
+    ap (λ (n : ℕ). bitAnd n 0x1010) y ∙ and-block 8 p 16 w 16 (omega arith) (omega arith) ∙ omega (arith, bit-of-16 p (omega arith), bit-of-16 w (omega arith))

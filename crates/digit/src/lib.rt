@@ -20,11 +20,12 @@ pub fn value_of(c: u8) -> u8
 }
 
 // The two digits of a byte in one number: the first, and 256 times the second. Both are computed at once: 6 more than a value is over 15
-// where its digit is a letter, and the letters stand 7 further on than the digits 0 to 9.
+// where its digit is a letter, and the letters stand 7 further on than the digits 0 to 9. The 7 is 8 less 1, both shifted down from the bit
+// that tells a letter: shifted up from a 1, as `(x << 3) - x`, it is compiled as a product.
 pub fn digits_of(b: u8) -> u32
     ensures { λ r. ⌜ r ≡ digitOf (b / 16) + digitOf (b % 16) * 256 ⌝ }
 {
     let values = (b >> 4) as u32 + (((b & 15) as u32) << 8);
-    let letters = ((values + 0x0606) >> 4) & 0x0101;
-    values + 0x3030 + ((letters << 3) - letters)
+    let letters = (values + 0x0606) & 0x1010;
+    values + 0x3030 + ((letters >> 1) - (letters >> 4))
 }

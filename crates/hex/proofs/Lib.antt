@@ -1,1 +1,4 @@
 pub mod DigitLaws
+pub mod Examples
+pub mod PlaceLaws
+pub mod PutLaws

@@ -1,24 +1,79 @@
-// Bytes as pairs of hexadecimal digits, and a number of 32 bits as eight, put into text. The digits are those of `digit`: there is no
+// A number of 32 bits as eight hexadecimal digits, and bytes as pairs of them, put into text. The digits are those of `digit`: there is no
 // product and no quotient on their way.
 ghost use mathlib.Core.Path.{_≡_};
-ghost use Prim.Native.Nat.{_+_, _/_, _%_, _<_};
-ghost use lib.ListN.{length, set};
-ghost use Rattle.buffer.specs.Buffer.{placed};
-ghost use Rattle.buffer.specs.BigEndian.{bytesOf};
-ghost use Rattle.digit.specs.Digit.{digitOf};
-ghost use Rattle.hex.specs.Digits.{digitsOf, hexDigits};
+ghost use Prim.Native.Nat.{_+_, _-_, _*_, _/_, _≤_, _<_};
+ghost use mathlib.Core.Bool.{cond};
+ghost use lib.ListN.{length, take, drop};
+ghost use Rattle.buffer.specs.Buffer.{putAt, placed};
+ghost use Rattle.hex.specs.Digits.{digitsOf, hexDigits, PlaceValue};
 
 // Puts the two digits of a byte.
 fn put_pair(b: u8, out: &mut [u8], at: usize)
     requires { ⌜ at + 1 < length (now out) ⌝ }
-    ensures { λ _. ⌜ now (out .exit) ≡ set (set (now (out .entry)) at (digitOf (b / 16))) (at + 1) (digitOf (b % 16)) ⌝ }
+    ensures { λ _. ⌜ now (out .exit) ≡ putAt at (hexDigits 2 b) (now (out .entry)) ⌝ }
 {
     let pair = digit::digits_of(b);
     out[at] = (pair & 255) as u8;
     out[at + 1] = (pair >> 8) as u8;
 }
 
-// Puts the digits of `bytes` into `out` from index `at` on. Where they do not fit, nothing is put.
+// Puts the digits of all bytes.
+fn put_all(bytes: &[u8], out: &mut [u8], at: usize)
+    requires { ⌜ at + length (now bytes) * 2 ≤ length (now out) ⌝ }
+    ensures { λ _. ⌜ now (out .exit) ≡ putAt at (digitsOf (now (bytes .entry))) (now (out .entry)) ⌝ }
+{
+    let n = bytes.len();
+    let mut i: usize = 0;
+    while i < n {
+        put_pair(bytes[i], out, at + i + i);
+        i += 1;
+    }
+}
+
+// Puts the digits of the next `n` bytes, where they are wanted, and returns the index of the byte behind them.
+fn put_part(wanted: bool, bytes: &[u8], from: usize, n: usize, out: &mut [u8], at: usize) -> usize
+    requires { ⌜ (from + cond wanted n 0 ≤ length (now bytes)) × (at + length (now bytes) * 2 ≤ length (now out)) ⌝ }
+    ensures end { λ r. ⌜ r ≡ from + cond wanted n 0 ⌝ }
+    ensures out { λ _. ⌜ now (out .exit) ≡ putAt (at + from * 2) (digitsOf (take (cond wanted n 0) (drop from (now (bytes .entry))))) (now (out .entry)) ⌝ }
+{
+    if !wanted {
+        return from;
+    }
+    let end = from + n;
+    put_all(&bytes[from..end], out, at + from + from);
+    end
+}
+
+// Puts the digits of as many times eight bytes as are left, and returns the index of the byte behind them.
+fn put_eights(bytes: &[u8], from: usize, out: &mut [u8], at: usize) -> usize
+    requires { ⌜ (from ≤ length (now bytes)) × (at + length (now bytes) * 2 ≤ length (now out)) ⌝ }
+    ensures end { λ r. ⌜ r ≡ from + (length (now (bytes .entry)) - from) / 8 * 8 ⌝ }
+    ensures out { λ _. ⌜ now (out .exit) ≡ putAt (at + from * 2) (digitsOf (take ((length (now (bytes .entry)) - from) / 8 * 8) (drop from (now (bytes .entry))))) (now (out .entry)) ⌝ }
+{
+    let n = bytes.len();
+    let mut i = from;
+    while 8 <= n - i {
+        let end = i + 8;
+        put_all(&bytes[i..end], out, at + i + i);
+        i = end;
+    }
+    i
+}
+
+// Puts the digits of all bytes, in parts of 2, 4, 8 and 1: of a part whose length is a numeral the digits are computed at once.
+fn put_parts(bytes: &[u8], out: &mut [u8], at: usize)
+    requires { ⌜ at + length (now bytes) * 2 ≤ length (now out) ⌝ }
+    ensures { λ _. ⌜ now (out .exit) ≡ putAt at (digitsOf (now (bytes .entry))) (now (out .entry)) ⌝ }
+{
+    let n = bytes.len();
+    let two = put_part(n & 2 != 0, bytes, 0, 2, out, at);
+    let four = put_part(n & 4 != 0, bytes, two, 4, out, at);
+    let eight = put_eights(bytes, four, out, at);
+    put_part(eight < n, bytes, eight, 1, out, at);
+}
+
+// Puts the digits of `bytes` into `out` from index `at` on. Where they do not fit, nothing is put. The room is tested by differences: where a
+// caller has tested it, the compiler sees that.
 pub fn put_digits(bytes: &[u8], out: &mut [u8], at: usize)
     ensures { λ _. ⌜ now (out .exit) ≡ placed at (digitsOf (now (bytes .entry))) (now (out .entry)) ⌝ }
 {
@@ -27,34 +82,27 @@ pub fn put_digits(bytes: &[u8], out: &mut [u8], at: usize)
     if size < at {
         return;
     }
-    if (size - at) >> 1 < n {
+    if size - at < n {
         return;
     }
-    let mut i: usize = 0;
-    let mut k = at;
-    while i < n {
-        put_pair(bytes[i], out, k);
-        i += 1;
-        k += 2;
+    if size - at - n < n {
+        return;
     }
-}
-
-// The four bytes of a number, most significant first.
-fn bytes_of(x: u32) -> [u8; 4]
-    ensures { λ r. ⌜ r ≡ bytesOf x ⌝ }
-{
-    [
-        (x >> 24) as u8,
-        ((x >> 16) & 255) as u8,
-        ((x >> 8) & 255) as u8,
-        (x & 255) as u8,
-    ]
+    put_parts(bytes, out, at);
 }
 
 // Puts the eight digits of a number into `out` from index `at` on. Where they do not fit, nothing is put.
 pub fn put_number(x: u32, out: &mut [u8], at: usize)
     ensures { λ _. ⌜ now (out .exit) ≡ placed at (hexDigits 8 x) (now (out .entry)) ⌝ }
+    ensures place_value { λ _. ⌜ PlaceValue 8 x ⌝ }
 {
-    let bytes = bytes_of(x);
-    put_digits(&bytes, out, at);
+    let size = out.len();
+    if size < at {
+        return;
+    }
+    if size - at < 8 {
+        return;
+    }
+    let bytes = buffer::bytes(x);
+    put_all(&bytes, out, at);
 }

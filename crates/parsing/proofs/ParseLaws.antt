@@ -10,12 +10,13 @@ use lib.ListN.{length, getD, drop, length-drop}
 use lib.Seq.{take-at, getD-at, length-take-le}
 use borrow.Author.Tests.{le-leb, lt-leb, eq-eqb}
 use Rattle.frame.specs.Frame.{frameOf}
-use Rattle.hex.specs.Digits.{digitsOf, hexDigits}
+use Rattle.hex.specs.Digits.{digitsOf, hexDigits, allDigits}
 use Rattle.hex.proofs.DigitLaws.{length-digits}
+use Rattle.hex.proofs.PlaceLaws.{all-hex, number-back}
 use Rattle.unhex.specs.declared.Bytes.{Bytes}
 use Rattle.unhex.specs.declared.Number.{Number}
-use Rattle.unhex.specs.Reading.{allDigits, readOf, readNumber}
-use Rattle.unhex.proofs.BackLaws.{all-digits, bytes-back, all-hex, number-back}
+use Rattle.unhex.specs.Reading.{readOf, readNumber}
+use Rattle.unhex.proofs.BackLaws.{all-digits, bytes-back}
 use Rattle.unhex.proofs.ReadLaws.{number-good, number-is, bytes-good, bytes-are}
 use Rattle.marks.specs.Form.{formed}
 use Rattle.marks.proofs.FormLaws.{formed-length}
@@ -97,4 +98,4 @@ module _ (h : ℕ) (ds : List ℕ) where
 pub read-back : ReadBack
 unfolding parseOf
 read-back h ds hb few bytes =
-    simp (is-formed h ds few, header-is h ds, data-is h ds, all-hex 8 h, all-digits ds bytes, number-back 8 h hb, bytes-back ds bytes)
+    simp (is-formed h ds few, header-is h ds, data-is h ds, all-hex 8 h, all-digits ds, number-back 8 h hb, bytes-back ds bytes)

@@ -8,7 +8,8 @@ use Rattle.frame.specs.Frame.{frameOf}
 use Rattle.frame.specs.declared.Frame.{Frame}
 use Rattle.marks.specs.Form.{formed}
 use Rattle.gridconnect.specs.Line.{lineOf}
-use Rattle.unhex.specs.Reading.{allDigits, bytesIn, numberIn}
+use Rattle.hex.specs.Digits.{allDigits, numberIn}
+use Rattle.unhex.specs.Reading.{bytesIn}
 use Rattle.parsing.specs.declared.Parsed.{Parsed}
 
 abbrev pub headerDigits : List ℕ → List ℕ

@@ -38,7 +38,7 @@ fn frame_at(frames: &[u8; 160], i: usize) -> Frame
     requires { ⌜ i < 10 ⌝ }
     ensures { λ r. ⌜ r ≡ frameAt (now (frames .entry)) (16 * i) ⌝ }
 {
-    let at = 16 * i;
+    let at = i << 4;
     Frame {
         header: number_at(frames, at),
         len: number_at(frames, at + 4),

@@ -13,9 +13,10 @@ use lib.Seq.{drop-cons}
 use borrow.Author.Tests.{le-leb, lt-leb, leb-true, leb-false, eq-eqb}
 use Rattle.buffer.proofs.Choice.{and-left, and-right, by-test}
 use Rattle.digit.specs.Digit.{digitValue}
+use Rattle.hex.specs.Digits.{allDigits, numberIn}
 use Rattle.unhex.specs.declared.Bytes.{Bytes}
 use Rattle.unhex.specs.declared.Number.{Number}
-use Rattle.unhex.specs.Reading.{allDigits, bytesIn, someBytes, noBytes, readOf, numberIn, number, noNumber, readNumber}
+use Rattle.unhex.specs.Reading.{bytesIn, someBytes, noBytes, readOf, number, noNumber, readNumber}
 
 -- ---- the worst of the values so far
 
@@ -66,6 +67,10 @@ next-pair s i h =
     let second : drop (i + 1) s ≡ getD s (i + 1) 0 ∷ drop (i + 2) s = rw e at (next-one s (i + 1) h) in
     next-one s i (omega arith) ∙ ap (λ (l : List ℕ). getD s i 0 ∷ l) second
 
+pub pair-value : (a b : ℕ) → numberIn (a ∷ b ∷ []) ≡ digitValue a * 16 + digitValue b
+unfolding numberIn
+pair-value a b = omega arith
+
 -- two digits make a byte
 pub half : (k : ℕ) (s : List ℕ) → length s ≤ k * 2 → length (bytesIn s) ≤ k
 unfolding bytesIn
@@ -76,7 +81,7 @@ half (suc k) (a ∷ b ∷ more) h = suc-le-suc (half k more (omega (arith, add-o
 
 -- ---- for callers: of a text of a right length the answer is good where all are digits
 
-chosen : {A : Type 0} (good : A → Bool) (t : Bool) (x y : A) → good x ≡ true → good y ≡ false → good (cond t x y) ≡ t
+pub chosen : {A : Type 0} (good : A → Bool) (t : Bool) (x y : A) → good x ≡ true → good y ≡ false → good (cond t x y) ≡ t
 chosen good true x y p q = p
 chosen good false x y p q = q
 

@@ -1,19 +1,14 @@
--- Document 01, "The demonstration board": "eight header digits, `N`, 0–16 data digits in pairs, .. digits 0–9 and A–F". What digits stand
--- for.
-use Prim.Native.Nat.{ℕ, _+_, _-_, _*_, _%_, _^_, _≤_, _<_}
+-- Document 01, "The demonstration board": "eight header digits, `N`, 0–16 data digits in pairs, .. digits 0–9 and A–F". What is read from
+-- digits.
+use Prim.Native.Nat.{ℕ, _-_, _%_, _^_, _≤_, _<_}
 use mathlib.Core.Path.{_≡_}
 use mathlib.Core.Bool.{Bool, true, false, cond, _&&_}
 use mathlib.Core.List.{List, [], _∷_, _++_}
 use lib.Dec.{leb, eqb}
-use lib.ListN.{length, getD, replicate}
-use Rattle.digit.specs.Digit.{digitValue}
-use Rattle.hex.specs.Digits.{digitsOf, hexDigits}
+use lib.ListN.{length, getD, take, replicate}
+use Rattle.hex.specs.Digits.{digitsOf, hexDigits, allDigits, numberIn}
 use Rattle.unhex.specs.declared.Bytes.{Bytes}
 use Rattle.unhex.specs.declared.Number.{Number}
-
-unfoldable pub allDigits : List ℕ → Bool
-allDigits [] = true
-allDigits (c ∷ more) = leb (digitValue c) 15 && allDigits more
 
 -- ---- bytes
 
@@ -21,7 +16,7 @@ allDigits (c ∷ more) = leb (digitValue c) 15 && allDigits more
 unfoldable pub bytesIn : List ℕ → List ℕ
 bytesIn [] = []
 bytesIn (a ∷ []) = []
-bytesIn (a ∷ b ∷ more) = (digitValue a * 16 + digitValue b) ∷ bytesIn more
+bytesIn (a ∷ b ∷ more) = numberIn (a ∷ b ∷ []) ∷ bytesIn more
 
 -- "0–16 data digits in pairs"
 abbrev pub paired : List ℕ → Bool
@@ -42,15 +37,11 @@ readOf text = cond (paired text && allDigits text) (someBytes (bytesIn text)) no
 abbrev pub BytesBack : Type 0
 BytesBack = (bs : List ℕ) → length bs ≤ 8 → ((i : ℕ) → getD bs i 0 < 256) → readOf (digitsOf bs) ≡ someBytes bs
 
+-- Digits that were read as bytes are the ones that are printed for them.
+abbrev pub BytesAgain : Type 0
+BytesAgain = (text : List ℕ) → readOf text .good ≡ true → digitsOf (take (readOf text .len) (readOf text .bytes)) ≡ text
+
 -- ---- a number
-
--- The number that digits stand for, behind others that stand for `before`.
-unfoldable pub numberFrom : ℕ → List ℕ → ℕ
-numberFrom before [] = before
-numberFrom before (c ∷ more) = numberFrom (before * 16 + digitValue c) more
-
-abbrev pub numberIn : List ℕ → ℕ
-numberIn text = numberFrom 0 text
 
 abbrev pub number : ℕ → Number
 number x = record { good = true; value = x }
@@ -63,6 +54,10 @@ noNumber = record { good = false; value = 0 }
 unfoldable pub readNumber : List ℕ → Number
 readNumber text = cond (eqb (length text) 8 && allDigits text) (number (numberIn text)) noNumber
 
--- A number of 32 bits that was printed is read back from its eight digits.
+-- C-13: "and read back as it". A number of 32 bits that was printed is read back from its eight digits.
 abbrev pub NumberBack : Type 0
 NumberBack = (x : ℕ) → x < 2 ^ 32 → readNumber (hexDigits 8 x) ≡ number x
+
+-- Eight digits that were read are the ones that are printed for their number.
+abbrev pub NumberAgain : Type 0
+NumberAgain = (text : List ℕ) → readNumber text .good ≡ true → hexDigits 8 (readNumber text .value) ≡ text

@@ -2,7 +2,7 @@
 // way of a digit.
 ghost use mathlib.Core.Path.{_≡_};
 ghost use Prim.Native.Nat.{_+_, _*_, _%_};
-ghost use Rattle.unhex.specs.Reading.{readOf, noBytes, BytesBack, readNumber, NumberBack};
+ghost use Rattle.unhex.specs.Reading.{readOf, noBytes, BytesBack, BytesAgain, readNumber, NumberBack, NumberAgain};
 
 // The bytes that some digits stand for: the first `len` of eight.
 pub struct Bytes {
@@ -38,6 +38,7 @@ fn byte_of(high: u8, low: u8) -> u8
 pub fn read_bytes(text: &[u8]) -> Bytes
     ensures { λ r. ⌜ r ≡ readOf (now (text .entry)) ⌝ }
     ensures read_back { λ _. ⌜ BytesBack ⌝ }
+    ensures printed_again { λ _. ⌜ BytesAgain ⌝ }
 {
     let size = text.len();
     if 16 < size {
@@ -72,6 +73,7 @@ pub fn read_bytes(text: &[u8]) -> Bytes
 pub fn read_number(text: &[u8]) -> Number
     ensures { λ r. ⌜ r ≡ readNumber (now (text .entry)) ⌝ }
     ensures read_back { λ _. ⌜ NumberBack ⌝ }
+    ensures printed_again { λ _. ⌜ NumberAgain ⌝ }
 {
     if text.len() != 8 {
         return Number {

@@ -1737,6 +1737,60 @@ static void test_lines(void)
     CHECK(bujorelm_parse_line((const uint8_t *)":XFFFFFFFFN;", 12).frame.header == 0xFFFFFFFFu);
 }
 
+/* A frame's line is the one that printf prints, and stands for the frame. */
+static void check_digits(const struct bujorelm_frame *frame)
+{
+    char expected[32];
+    uint8_t out[32];
+    struct bujorelm_parsed p;
+    int len = snprintf(expected, sizeof expected, ":X%08lXN", (unsigned long)frame->header);
+
+    for (uint32_t i = 0; i < frame->len; i++) {
+        len += snprintf(expected + len, sizeof expected - (size_t)len, "%02X", frame->bytes[i]);
+    }
+    len += snprintf(expected + len, sizeof expected - (size_t)len, ";\n");
+    CHECK_CASE(bujorelm_print_frame(*frame, out, sizeof out, 0) == (size_t)len && memcmp(out, expected, (size_t)len) == 0, expected);
+    p = bujorelm_parse_line(out, (size_t)len - 1);
+    CHECK_CASE(p.good && p.frame.header == frame->header && p.frame.len == frame->len, expected);
+    CHECK_CASE(memcmp(p.frame.bytes, frame->bytes, frame->len) == 0, expected);
+}
+
+/* Every digit at every place, of headers and of data bytes. */
+static void test_digits(void)
+{
+    static const char digits[] = "0123456789ABCDEF";
+    const char line[] = ":X1A22B123N2001000000FFABCD;";
+    struct bujorelm_frame frame = {.header = 0, .len = 0, .bytes = {0}};
+
+    for (unsigned shift = 0; shift <= 24; shift += 4) {
+        for (uint32_t pair = 0; pair <= 0xFF; pair++) {
+            frame.header = pair << shift;
+            check_digits(&frame);
+            frame.header = ~frame.header;
+            check_digits(&frame);
+        }
+    }
+    for (frame.len = 1; frame.len <= 8; frame.len++) {
+        for (uint32_t at = 0; at < frame.len; at++) {
+            for (unsigned byte = 0; byte <= 0xFF; byte++) {
+                memset(frame.bytes, 0x5A, sizeof frame.bytes);
+                frame.bytes[at] = (uint8_t)byte;
+                check_digits(&frame);
+            }
+        }
+    }
+    /* Any other byte in the place of a digit is none. */
+    for (size_t at = 2; at < sizeof line - 2; at++) {
+        for (unsigned byte = 0; at != 10 && byte <= 0xFF; byte++) {
+            uint8_t text[sizeof line - 1];
+
+            memcpy(text, line, sizeof text);
+            text[at] = (uint8_t)byte;
+            CHECK(bujorelm_parse_line(text, sizeof text).good == (byte != 0 && strchr(digits, (int)byte) != NULL));
+        }
+    }
+}
+
 /* ---- The line splitter ---- */
 
 static bool same_parsed(const struct bujorelm_parsed *a, const struct bujorelm_parsed *b)
@@ -2581,6 +2635,7 @@ int main(int argc, char **argv)
     test_cutting();
     test_transport_replies();
     test_lines();
+    test_digits();
     test_cuts();
     test_carries();
     test_line_bytes();

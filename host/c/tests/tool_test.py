@@ -562,7 +562,8 @@ class Server:
         self.socket.sendall("".join(f"{line}\n" for line in lines).encode())
 
     def end(self, close=True):
-        """Status, output, errors, and what the tool has sent at last."""
+        """Status, output, errors, and what the tool has sent at last. A connection that has been ended is not ended again: where the tool has ended
+        it too, the system takes that for a fault."""
         if close:
             self.socket.shutdown(socket.SHUT_WR)
         out, error = self.tool.communicate(timeout=PATIENCE)
@@ -701,7 +702,7 @@ def test_idle():
     time.sleep(0.3)
     server.commands(b"done\n")
     server.end_commands()
-    expect(server.end(), (3, "", "tool: no answer from board 0x22B: the connection has ended\n", []), "an idle tool")
+    expect(server.end(close=False), (3, "", "tool: no answer from board 0x22B: the connection has ended\n", []), "an idle tool")
 
 
 def test_traffic():

@@ -1,6 +1,6 @@
 -- `digits_of` meets its contract: both digits as sums.
 -- Assumes nothing.
-use Prim.Native.Nat.{ℕ, _+_, _*_, _/_, _%_, _<_}
+use Prim.Native.Nat.{ℕ, _+_, _-_, _*_, _/_, _%_, _<_}
 use mathlib.Core.Path.{_≡_}
 use native.Mathlib.Omega.{arith}
 use borrow.Author.Needs.{needs}
@@ -9,15 +9,12 @@ use Rattle.digit.proofs.DigitLaws.{digit-sum, letters}
 use Rattle.digit.proofs.digits_of.Statement.{statement}
 use Rattle.digit.proofs.digits_of.Tie as tie
 
-no-loss : (n : ℕ) → n < 0x10000 → n * 8 % 4294967296 ≡ n * 8
-no-loss n h = omega arith
-
--- the values of the two digits, and which are letters, as the code has them
+-- the values of the two digits, and the bit for 16 where one is a letter, as the code has them
 abbrev valuesOf : ℕ → ℕ
 valuesOf b = b / 16 + bitAnd b 15 * 256 % 4294967296
 
 abbrev lettersOf : ℕ → ℕ
-lettersOf b = bitAnd ((valuesOf b + 1542) / 16) 257
+lettersOf b = bitAnd (valuesOf b + 0x0606) 0x1010
 
 module _ (b : ℕ) (h : b < 256) where
   low : bitAnd b 15 ≡ b % 16
@@ -26,11 +23,8 @@ module _ (b : ℕ) (h : b < 256) where
   values : valuesOf b ≡ b / 16 + b % 16 * 256
   values = omega (arith, low)
 
-  which : lettersOf b ≡ (b / 16 + 6) / 16 + (b % 16 + 6) / 16 * 256
+  which : lettersOf b ≡ (b / 16 + 6) / 16 * 16 + (b % 16 + 6) / 16 * 4096
   which = letters b (valuesOf b) h values
-
-  times-eight : lettersOf b * 8 % 4294967296 ≡ lettersOf b * 8
-  times-eight = no-loss (lettersOf b) (omega (arith, which))
 
 cast-values-2 : tie.Need-cast-values-2
 cast-values-2 c = omega (arith, low (c .args .b) (omega arith))
@@ -42,16 +36,21 @@ add-result : tie.Need-add-result
 add-result c = omega (arith, values (c .args .b) (omega arith))
 
 sub-result : tie.Need-sub-result
-sub-result c = omega (arith, times-eight (c .args .b) (omega arith))
+sub-result c = omega arith
 
 add-result-2 : tie.Need-add-result-2
-add-result-2 c = omega (arith, values (c .args .b) (omega arith), which (c .args .b) (omega arith), times-eight (c .args .b) (omega arith))
+add-result-2 c = omega (arith, values (c .args .b) (omega arith), which (c .args .b) (omega arith))
+
+-- 8 less 1 for each letter
+seven : (letters p q : ℕ) → letters ≡ p * 16 + q * 4096 → p < 2 → q < 2 → letters / 2 - letters / 16 ≡ p * 7 + q * 1792
+seven letters p q e h k = omega arith
 
 returns : tie.Need-returns
 returns c =
     let b = c .args .b in
     let h : b < 256 = omega arith in
-    omega (arith, values b h, which b h, times-eight b h, digit-sum (b / 16) (omega arith), digit-sum (b % 16) (omega arith))
+    let further = seven (lettersOf b) ((b / 16 + 6) / 16) ((b % 16 + 6) / 16) (which b h) (omega arith) (omega arith) in
+    omega (arith, values b h, digit-sum (b / 16) (omega arith), digit-sum (b % 16) (omega arith))
 
 pub digits-of-spec : {M : Type 1} → statement M
 digits-of-spec =

@@ -5,11 +5,11 @@ use mathlib.Core.Path.{_≡_, _∙_}
 use native.Mathlib.Omega.{arith}
 use borrow.Author.Needs.{needs}
 use lib.Bits.{bitAnd, and-mask}
-use lib.ListN.{length-set}
 use mir.Val.{Fits}
 use mir.Syntax.{w8}
 use Rattle.digit.specs.Digit.{digitOf}
 use Rattle.digit.proofs.DigitLaws.{digit-sum}
+use Rattle.hex.proofs.PutLaws.{put-two}
 use Rattle.hex.proofs.put_pair.Statement.{statement}
 use Rattle.hex.proofs.put_pair.Tie as tie
 
@@ -38,7 +38,9 @@ cast-out-2 : tie.Need-cast-out-2
 cast-out-2 c = lower-fits _ _ (byte c) (c .digits-of .ensures)
 
 returns : tie.Need-returns
-returns c = rw (upper _ _ (byte c) (c .digits-of .ensures), lower _ _ (byte c) (c .digits-of .ensures))
+returns c =
+    let a = c .before .before .args in
+    rw (upper _ _ (byte c) (c .digits-of .ensures), lower _ _ (byte c) (c .digits-of .ensures)) (put-two (a .out .now) (a .at) (a .b) (byte c) (omega arith))
 
 pub put-pair-spec : {M : Type 1} → statement M
 put-pair-spec = tie.close (tie.spec (λ c κs. search needs) cast-out (λ c. search needs) cast-out-2 (λ c. search needs) (λ c. search needs) (λ c. search needs) returns)

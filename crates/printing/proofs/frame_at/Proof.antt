@@ -2,8 +2,9 @@
 -- Assumes nothing.
 use mathlib.Core.Path.{_≡_}
 use mathlib.Core.List.{List}
-use Prim.Native.Nat.{ℕ, _+_, _*_}
+use Prim.Native.Nat.{ℕ, _+_, _*_, _%_, _^_}
 use native.Mathlib.Nat.{add-assoc}
+use native.Mathlib.Omega.{arith}
 use lib.ListN.{getD}
 use borrow.Author.Needs.{needs}
 use Rattle.printing.specs.Printing.{frameAt}
@@ -18,8 +19,9 @@ returns : tie.Need-returns
 unfolding frameAt
 returns c =
     let a = c .before .before .before .args in
-    rw (c .before .before .number-at .ensures, c .before .number-at2 .ensures, c .data-at .ensures)
+    let start : a .i * 16 % 2 ^ 64 ≡ 16 * a .i = omega arith in
+    rw (c .before .before .number-at .ensures, c .before .number-at2 .ensures, c .data-at .ensures, start)
     (rw (behind (a .frames .now) (16 * a .i) 3, behind (a .frames .now) (16 * a .i) 2, behind (a .frames .now) (16 * a .i) 1))
 
 pub frame-at-spec : {M : Type 1} → statement M
-frame-at-spec = tie.close (tie.spec (λ c. search needs) (λ c κs. search needs) (λ c. search needs) (λ c κs. search needs) (λ c κs. search needs) returns)
+frame-at-spec = tie.close (tie.spec (λ c κs. search needs) (λ c. search needs) (λ c κs. search needs) (λ c κs. search needs) returns)

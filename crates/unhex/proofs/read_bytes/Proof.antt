@@ -14,9 +14,10 @@ use lib.ListN.{length, drop, getD, set, replicate, drop-of-length-le}
 use lib.Seq.{sets}
 use Rattle.buffer.proofs.Laws.{put-sets, put-first, over-zeros}
 use Rattle.digit.specs.Digit.{digitValue}
-use Rattle.unhex.specs.Reading.{allDigits, bytesIn, readOf, noBytes}
-use Rattle.unhex.proofs.BackLaws.{bytes-read-back}
-use Rattle.unhex.proofs.ReadLaws.{Passed, passed, small, one-bad, all-good, next-pair, half}
+use Rattle.hex.specs.Digits.{allDigits}
+use Rattle.unhex.specs.Reading.{bytesIn, readOf, noBytes}
+use Rattle.unhex.proofs.BackLaws.{bytes-read-back, bytes-again}
+use Rattle.unhex.proofs.ReadLaws.{Passed, passed, small, one-bad, all-good, next-pair, pair-value, half}
 use Rattle.unhex.proofs.read_bytes.Statement.{statement}
 use Rattle.unhex.proofs.read_bytes.Tie as tie
 
@@ -36,7 +37,7 @@ module _ (s : List ℕ) (i worst x y : ℕ) (h : i + 1 < length s) (ex : x ≡ d
       let hx = small s i worst x (omega arith) ex p t in
       let hy = small s (i + 1) (bitOr worst x) y h ey first t in
       let b : x % 16 * 16 + y % 16 ≡ x * 16 + y = omega arith in
-      sym (ap (λ (l : List ℕ). sets bytes n (bytesIn l)) (next-pair s i h) ∙ rw (add-one n, b, ex, ey))
+      sym (ap (λ (l : List ℕ). sets bytes n (bytesIn l)) (next-pair s i h) ∙ rw (add-one n, b, ex, ey, ← pair-value (getD s i 0) (getD s (i + 1) 0)))
 
 counted : (s : List ℕ) (i n : ℕ) → i + 1 < length s → n + length (bytesIn (drop i s)) ≡ n + 1 + length (bytesIn (drop (i + 2) s))
 unfolding bytesIn
@@ -91,11 +92,11 @@ module _ (c : tie.Else2 Inv-loop μ-loop) where
   even = sym (and-mask (length (c .before .before .before .args .text .now)) 1) ∙ c .if2 .left
 
 returns : tie.Need-returns Inv-loop μ-loop
-returns c = (c .no-bytes .ensures ∙ too-long (c .before .before .before .args .text .now) (c .before .if1 .taken), bytes-read-back)
+returns c = (c .no-bytes .ensures ∙ too-long (c .before .before .before .args .text .now) (c .before .if1 .taken), (bytes-read-back, bytes-again))
 
 returns-2 : tie.Need-returns-2 Inv-loop μ-loop
 returns-2 c =
-    (c .no-bytes2 .ensures ∙ is-odd (c .before .before .before .before .args .text .now) (c .before .before .if1 .left) (c .before .if2 .taken), bytes-read-back)
+    (c .no-bytes2 .ensures ∙ is-odd (c .before .before .before .before .args .text .now) (c .before .before .if1 .left) (c .before .if2 .taken), (bytes-read-back, bytes-again))
 
 loop-holds : tie.Need-loop-holds Inv-loop μ-loop
 loop-holds c = (omega arith, omega arith, refl, λ t. refl, omega arith)
@@ -127,14 +128,14 @@ returns-3 c =
     let s = c .before .before .before .before .before .before .before .args .text .now in
     let l = c .before .before .before .loop in
     let f = one-bad s (l .i) (l .worst) (l .inv .2) (c .before .if3 .taken) in
-    (c .no-bytes3 .ensures ∙ no-digits s (c .before .before .before .before .before .if1 .left) (even (c .before .before .before .before)) f, bytes-read-back)
+    (c .no-bytes3 .ensures ∙ no-digits s (c .before .before .before .before .before .if1 .left) (even (c .before .before .before .before)) f, (bytes-read-back, bytes-again))
 
 returns-4 : tie.Need-returns-4 Inv-loop μ-loop
 returns-4 c =
     let s = c .before .before .before .before .before .before .args .text .now in
     let l = c .before .before .loop in
     let t = all-good s (l .i) (l .worst) (l .inv .2) (omega arith) (omega arith) in
-    (whole s (c .before .before .before .before .if1 .left) (even (c .before .before .before)) (l .bytes) (l .n) (l .i) (omega arith) t (l .inv .3 t) (l .inv .4), bytes-read-back)
+    (whole s (c .before .before .before .before .if1 .left) (even (c .before .before .before)) (l .bytes) (l .n) (l .i) (omega arith) t (l .inv .3 t) (l .inv .4), (bytes-read-back, bytes-again))
 
 pub read-bytes-spec : {M : Type 1} → statement M
 read-bytes-spec =

@@ -4,17 +4,18 @@
 use Prim.Native.Nat.{ℕ, _+_, _*_, _-_, _%_, _^_, _≤_, _<_}
 use mathlib.Core.Path.{_≡_, refl, sym, ap, _∙_}
 use mathlib.Core.Bool.{true, false}
-use mathlib.Core.List.{List, []}
+use mathlib.Core.List.{List, [], _∷_}
 use native.Mathlib.Numerals.{add-one}
-use native.Mathlib.Nat.{pow-suc, pow-le-pow-right}
+use native.Mathlib.Nat.{pow-suc, pow-succ', pow-le-pow-right, mul-assoc, add-mul, zero-add, zero-mul}
 use native.Mathlib.Omega.{arith}
 use borrow.Author.Needs.{needs}
 use borrow.Author.Tests.{eq-eqb, ne-eqb}
 use lib.Bits.{bitAnd, and-mask}
 use lib.ListN.{length, drop, getD, drop-of-length-le}
 use Rattle.digit.specs.Digit.{digitValue}
-use Rattle.unhex.specs.Reading.{allDigits, numberFrom, numberIn, number, noNumber, readNumber}
-use Rattle.unhex.proofs.BackLaws.{number-read-back}
+use Rattle.hex.specs.Digits.{allDigits, numberIn}
+use Rattle.unhex.specs.Reading.{number, noNumber, readNumber}
+use Rattle.unhex.proofs.BackLaws.{number-read-back, number-again}
 use Rattle.unhex.proofs.ReadLaws.{Passed, next-one, passed, small, one-bad, all-good}
 use Rattle.unhex.proofs.read_number.Statement.{statement}
 use Rattle.unhex.proofs.read_number.Tie as tie
@@ -33,10 +34,17 @@ module _ (i value x : ℕ) (h : i < 8) (v : value < 16 ^ i) where
   pub value-is : x ≤ 15 → value * 16 % 2 ^ 32 + bitAnd x 15 ≡ value * 16 + x
   value-is k = omega (arith, room, and-mask x 4)
 
-module _ (s : List ℕ) (i value x : ℕ) (h : i < length s) (e : x ≡ digitValue (getD s i 0)) where
-  pub number-next : numberFrom value (drop i s) ≡ numberFrom (value * 16 + x) (drop (i + 1) s)
-  unfolding numberFrom
-  number-next = ap (λ (l : List ℕ). numberFrom value l) (next-one s i h) ∙ rw e
+-- the number of digits that stand behind others, which are `value`
+abbrev behind : ℕ → List ℕ → ℕ
+behind value s = value * 16 ^ length s + numberIn s
+
+one-digit : (value c : ℕ) (more : List ℕ) → behind value (c ∷ more) ≡ behind (value * 16 + digitValue c) more
+unfolding numberIn
+one-digit value c more =
+    rw (pow-succ' 16 (length more), ← mul-assoc value 16 (16 ^ length more), add-mul (value * 16) (digitValue c) (16 ^ length more)) (omega arith)
+
+number-next : (s : List ℕ) (i value x : ℕ) → i < length s → x ≡ digitValue (getD s i 0) → behind value (drop i s) ≡ behind (value * 16 + x) (drop (i + 1) s)
+number-next s i value x h e = ap (λ (l : List ℕ). behind value l) (next-one s i h) ∙ one-digit value (getD s i 0) (drop (i + 1) s) ∙ rw e
 
 -- the ends
 module _ (s : List ℕ) where
@@ -49,25 +57,26 @@ module _ (s : List ℕ) where
     unfolding readNumber
     no-number f = simp (eq-eqb (length s) 8 l, f)
 
-    a-number : (v : ℕ) → allDigits s ≡ true → numberFrom v (drop 8 s) ≡ numberIn s → number v ≡ readNumber s
-    unfolding readNumber numberFrom
+    a-number : (v : ℕ) → allDigits s ≡ true → behind v (drop 8 s) ≡ numberIn s → number v ≡ readNumber s
+    unfolding readNumber numberIn
     a-number v t e =
         let n : drop 8 s ≡ [] = drop-of-length-le s {i = 8} (omega arith) in
-        let q : v ≡ numberIn s = rw n at e in
+        let f : behind v [] ≡ numberIn s = rw n at e in
+        let q : v ≡ numberIn s = omega arith in
         simp (eq-eqb (length s) 8 l, t, ← q)
 
 abbrev Inv-loop : tie.InvT-loop
 Inv-loop text value₀ worst₀ i₀ value worst i =
-    (i ≤ 8) × (value < 16 ^ i) × Passed text i worst × (allDigits text ≡ true → numberFrom value (drop i text) ≡ numberIn text)
+    (i ≤ 8) × (value < 16 ^ i) × Passed text i worst × (allDigits text ≡ true → behind value (drop i text) ≡ numberIn text)
 
 abbrev μ-loop : tie.MeasureT-loop
 μ-loop text value₀ worst₀ i₀ value worst i = 8 - i
 
 returns : tie.Need-returns Inv-loop μ-loop
-returns c = (not-eight (c .before .before .args .text .now) (c .if1 .taken), number-read-back)
+returns c = (not-eight (c .before .before .args .text .now) (c .if1 .taken), (number-read-back, number-again))
 
 loop-holds : tie.Need-loop-holds Inv-loop μ-loop
-loop-holds c = (omega arith, omega arith, refl, λ t. refl)
+loop-holds c = (omega arith, omega arith, refl, λ t. rw (zero-mul, zero-add))
 
 cast-value : tie.Need-cast-value Inv-loop μ-loop
 cast-value c = omega (arith, and-mask (c .value-of .result) 4)
@@ -88,14 +97,14 @@ loop-again c =
       omega arith,
       below (l .i) (l .value) x h (l .inv .1),
       passed s (l .i) (l .worst) x k e (l .inv .2),
-      λ t. ap (λ (v : ℕ). numberFrom v (drop (l .i + 1) s)) (value-is (l .i) (l .value) x h (l .inv .1) (small s (l .i) (l .worst) x k e (l .inv .2) t)) ∙ sym (number-next s (l .i) (l .value) x k e) ∙ l .inv .3 t,
+      λ t. ap (λ (v : ℕ). behind v (drop (l .i + 1) s)) (value-is (l .i) (l .value) x h (l .inv .1) (small s (l .i) (l .worst) x k e (l .inv .2) t)) ∙ sym (number-next s (l .i) (l .value) x k e) ∙ l .inv .3 t,
     )
 
 returns-2 : tie.Need-returns-2 Inv-loop μ-loop
 returns-2 c =
     let s = c .before .before .before .before .before .args .text .now in
     let l = c .before .before .loop in
-    (no-number s (c .before .before .before .if1 .left) (one-bad s (l .i) (l .worst) (l .inv .2) (c .if2 .taken)), number-read-back)
+    (no-number s (c .before .before .before .if1 .left) (one-bad s (l .i) (l .worst) (l .inv .2) (c .if2 .taken)), (number-read-back, number-again))
 
 returns-3 : tie.Need-returns-3 Inv-loop μ-loop
 returns-3 c =
@@ -104,7 +113,7 @@ returns-3 c =
     let n = c .before .before .before .if1 .left in
     let e : l .i ≡ 8 = omega arith in
     let t = all-good s (l .i) (l .worst) (l .inv .2) (omega arith) (omega arith) in
-    (a-number s n (l .value) t (rw e at (l .inv .3 t)), number-read-back)
+    (a-number s n (l .value) t (rw e at (l .inv .3 t)), (number-read-back, number-again))
 
 pub read-number-spec : {M : Type 1} → statement M
 read-number-spec =
