@@ -12,7 +12,7 @@ use Rattle.unhex.specs.declared.Number.{Number}
 
 -- ---- bytes
 
--- The bytes that pairs of digits stand for.
+-- The bytes that pairs of digits stand for. A digit without its pair stands for none: `paired` is asked first, and such a text is refused.
 unfoldable pub bytesIn : List ℕ → List ℕ
 bytesIn [] = []
 bytesIn (a ∷ []) = []
