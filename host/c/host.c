@@ -18,6 +18,10 @@
  * Nobody is waited for without a bound: there are CONNECTIONS_MAX tools at most, no more than OUTPUT_MAX bytes wait for one, and none is
  * waited for longer than WAIT_MAX.
  *
+ * A tick is a millisecond of the system's monotonic clock (CLOCK_MONOTONIC), of whose count the board is given the low 16 bits: a datagram of
+ * which nothing has come for more than 3 seconds is dropped. A frame's tick is that of the moment at which the board is given the frame, and
+ * while no frame comes the board is given a lone tick once a second.
+ *
  * Where the library refuses the board, a sentence on standard error says why, and at the start the program ends: the demonstration board is a
  * good one, and another that is put in its place may not be.
  */
@@ -64,6 +68,32 @@
 /* How long no new tool is taken after the system had no descriptor for one, in milliseconds. */
 #define ACCEPT_PAUSE 100
 
+/* After how many milliseconds without a frame the board is given a lone tick. */
+#define TICK_PAUSE 1000
+
+/* After how many milliseconds without any tick all that was unfinished is dropped by one of that time: above BUJORELM_AGE_MAX, and below
+   BUJORELM_TICKS_BOUND. */
+#define TICK_GAP 30000
+
+/* ---- Failures and the clock ---- */
+
+static void fail(const char *what)
+{
+    fprintf(stderr, "host: %s: %s\n", what, strerror(errno));
+    exit(EXIT_FAILURE);
+}
+
+/* Milliseconds on a clock that nobody sets. */
+static int64_t now(void)
+{
+    struct timespec t;
+
+    if (clock_gettime(CLOCK_MONOTONIC, &t) != 0) {
+        fail("clock");
+    }
+    return (int64_t)t.tv_sec * 1000 + t.tv_nsec / 1000000;
+}
+
 /* ---- Lines ---- */
 
 typedef void (*take_line_function)(void *context, const struct bujorelm_parsed *line);
@@ -100,6 +130,8 @@ static void lines_end(struct bujorelm_carry *carry, take_line_function take, voi
 struct board {
     struct bujorelm_node node;
     uint8_t memory[DEMONSTRATION_MEMORY_SIZE];
+    /* When it was last given a tick, or was started. */
+    int64_t last;
 };
 
 /* Whether the library refuses what it is handed; the sentence says what is wrong with the board. */
@@ -120,38 +152,63 @@ static void board_start(struct board *board)
     memset(board->memory, 0, sizeof board->memory);
     bujorelm_node_start(&board->node, &demonstration_description, demonstration_flash, sizeof demonstration_flash, board->memory,
                         sizeof board->memory);
+    board->last = now();
     if (is_refused(bujorelm_node_check(&board->node))) {
         exit(EXIT_FAILURE);
+    }
+}
+
+/* A lone tick. */
+static void board_tick(struct board *board, int64_t time)
+{
+    (void)is_refused(bujorelm_node_tick(&board->node, (uint16_t)time));
+}
+
+/* The tick that the board is given now. The host may have been kept from giving one for so long that 16 bits do not tell how long: it was
+   stopped, or nobody took its output. Then a lone tick of a time in between goes first. By that one all that was unfinished is too old. */
+static uint16_t board_now(struct board *board)
+{
+    const int64_t time = now();
+
+    if (time - board->last > TICK_GAP) {
+        board_tick(board, board->last + TICK_GAP);
+    }
+    board->last = time;
+    return (uint16_t)time;
+}
+
+/* To be called each time that input has been waited for: gives the board a lone tick where no frame has brought one for TICK_PAUSE. */
+static void board_waited(struct board *board)
+{
+    if (now() - board->last >= TICK_PAUSE) {
+        board_tick(board, board_now(board));
     }
 }
 
 /* A frame for the board, from its arrival until the frames that answer it are handed to `send`. */
 static void board_receive(struct board *board, const struct bujorelm_frame *frame, bujorelm_send_function send, void *context)
 {
+    const uint16_t tick = board_now(board);
     struct bujorelm_result result;
 
-    (void)bujorelm_node_receive(&board->node, frame->header, frame->bytes, frame->len, send, context, &result);
+    (void)bujorelm_node_receive(&board->node, tick, frame->header, frame->bytes, frame->len, send, context, &result);
     (void)is_refused(result);
 }
 
 /* ---- Descriptors ---- */
 
-static void fail(const char *what)
-{
-    fprintf(stderr, "host: %s: %s\n", what, strerror(errno));
-    exit(EXIT_FAILURE);
-}
-
-/* Waits until a descriptor that was handed to us in non-blocking mode is ready. */
-static void wait_for(int fd, short events)
+/* Waits until a descriptor is ready, for so many milliseconds at most; with -1, for ever. Returns whether it is. */
+static bool wait_for(int fd, short events, int timeout)
 {
     struct pollfd p = {.fd = fd, .events = events};
+    int ready;
 
-    while (poll(&p, 1, -1) < 0) {
+    while ((ready = poll(&p, 1, timeout)) < 0) {
         if (errno != EINTR) {
             fail("poll");
         }
     }
+    return ready != 0;
 }
 
 static bool would_block(int error)
@@ -179,7 +236,7 @@ static void pipe_flush(struct pipe_host *host)
         if (count >= 0) {
             done += (size_t)count;
         } else if (would_block(errno)) {
-            wait_for(STDOUT_FILENO, POLLOUT);
+            (void)wait_for(STDOUT_FILENO, POLLOUT, -1);
         } else if (errno != EINTR) {
             fail("standard output");
         }
@@ -216,27 +273,34 @@ static void pipe_line(void *context, const struct bujorelm_parsed *line)
     }
 }
 
+/* Reads a block. Returns false at the end of the input. */
+static bool pipe_read(struct pipe_host *host)
+{
+    uint8_t block[BLOCK_SIZE];
+    const ssize_t count = read(STDIN_FILENO, block, sizeof block);
+
+    if (count > 0) {
+        lines_feed(&host->carry, block, (size_t)count, pipe_line, host);
+        pipe_flush(host);
+    } else if (count == 0) {
+        lines_end(&host->carry, pipe_line, host);
+        pipe_flush(host);
+    } else if (errno != EINTR && !would_block(errno)) {
+        fail("standard input");
+    }
+    return count != 0;
+}
+
 static int run_pipe(void)
 {
     static struct pipe_host host;
-    uint8_t block[BLOCK_SIZE];
 
     board_start(&host.board);
     for (;;) {
-        const ssize_t count = read(STDIN_FILENO, block, sizeof block);
-
-        if (count > 0) {
-            lines_feed(&host.carry, block, (size_t)count, pipe_line, &host);
-            pipe_flush(&host);
-        } else if (count == 0) {
-            lines_end(&host.carry, pipe_line, &host);
-            pipe_flush(&host);
+        if (wait_for(STDIN_FILENO, POLLIN, TICK_PAUSE) && !pipe_read(&host)) {
             return EXIT_SUCCESS;
-        } else if (would_block(errno)) {
-            wait_for(STDIN_FILENO, POLLIN);
-        } else if (errno != EINTR) {
-            fail("standard input");
         }
+        board_waited(&host.board);
     }
 }
 
@@ -282,17 +346,6 @@ static bool set_nonblocking(int fd)
     const int flags = fcntl(fd, F_GETFL);
 
     return flags >= 0 && fcntl(fd, F_SETFL, flags | O_NONBLOCK) == 0;
-}
-
-/* Milliseconds on a clock that nobody sets. */
-static int64_t now(void)
-{
-    struct timespec t;
-
-    if (clock_gettime(CLOCK_MONOTONIC, &t) != 0) {
-        fail("clock");
-    }
-    return (int64_t)t.tv_sec * 1000 + t.tv_nsec / 1000000;
 }
 
 static size_t tool_waiting(const struct tool *tool)
@@ -504,17 +557,17 @@ static int hub_listen(uint16_t port)
     return fd;
 }
 
-/* How long the next poll may take, in milliseconds: until the first tool has been waited for too long. */
+/* How long the next poll may take, in milliseconds: until the first tool has been waited for too long, or a lone tick is due. */
 static int hub_timeout(const struct hub *hub)
 {
     const int64_t time = now();
-    int64_t timeout = hub->accept_paused ? ACCEPT_PAUSE : -1;
+    int64_t timeout = hub->accept_paused ? ACCEPT_PAUSE : TICK_PAUSE;
 
     for (size_t i = 0; i < hub->count; i++) {
         const struct tool *const tool = &hub->tools[i];
         const int64_t left = tool->since + WAIT_MAX - time;
 
-        if (tool_waiting(tool) != 0 && (timeout < 0 || left < timeout)) {
+        if (tool_waiting(tool) != 0 && left < timeout) {
             timeout = left < 0 ? 0 : left;
         }
     }
@@ -578,6 +631,7 @@ static void run_hub(uint16_t port, int send_buffer)
         for (size_t i = 0; i < hub.count; i++) {
             hub_serve(&hub, i);
         }
+        board_waited(&hub.board);
         time = now();
         for (size_t i = 0; i < hub.count; i++) {
             tool_flush(&hub.tools[i]);
@@ -594,7 +648,9 @@ static void run_hub(uint16_t port, int send_buffer)
 
 static int usage(void)
 {
-    fputs("usage: host [--port N [--send-buffer BYTES]]\n", stderr);
+    fputs("usage: host [--port N [--send-buffer BYTES]]\n"
+          "A tick is a millisecond of the monotonic clock: a datagram of which nothing comes for more than 3 seconds is dropped.\n",
+          stderr);
     return 2;
 }
 

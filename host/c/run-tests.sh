@@ -115,8 +115,8 @@ stack tool_stack "$tool"
 # refusing NAME SOURCE: the same program with a library that refuses as the environment says.
 refusing() {
     # shellcheck disable=SC2086
-    $CC $c $sanitizers -I "$here/include" -I "$here" -Wl,--wrap=bujorelm_handle_frame "$here/$2" "$here/tests/refusing.c" "$library" \
-        -o "$out/$1-refusing"
+    $CC $c $sanitizers -I "$here/include" -I "$here" -Wl,--wrap=bujorelm_handle_frame,--wrap=bujorelm_handle_tick "$here/$2" \
+        "$here/tests/refusing.c" "$library" -o "$out/$1-refusing"
 }
 
 echo "host/c: the examples, docs/DRIVER.md and docs/TOOL.md"
@@ -124,12 +124,15 @@ compile example "-O2" example/minimal.c
 compile example-sanitized "$sanitizers" example/minimal.c
 compile socketcan "-O2" example/socketcan.c
 compile socketcan-test "$sanitizers" tests/socketcan.c
-"$out/socketcan-test"
+# It waits for a tick that comes alone after a second, while other programs are built.
+"$out/socketcan-test" &
+socketcan=$!
 compile host "-O2 -g" host.c
 compile host-sanitized "$sanitizers" host.c
 refusing example example/minimal.c
 refusing socketcan example/socketcan.c
 refusing host host.c
+wait "$socketcan"
 python3 "$here/tests/refusal_test.py" "$out"
 python3 "$here/tests/document_test.py" "$root/docs/DRIVER.md" "$root" "$out"
 compile_tool ask "-O2" example/ask.c
@@ -144,6 +147,10 @@ python3 "$here/tests/assumptions_test.py" "$root"
 python3 "$here/tests/demands_test.py" "$root"
 
 echo "host/c: the reference host"
+# The host on a clock that its test sets.
+# shellcheck disable=SC2086
+$CC $c -O2 -I "$here/include" -I "$here" -Wl,--wrap=clock_gettime "$here/host.c" "$here/tests/clock.c" "$library" -o "$out/host-clock"
+python3 "$here/tests/clock_test.py" "$out/host-clock"
 python3 "$here/tests/host_test.py" "$out/host"
 python3 "$here/tests/host_test.py" "$out/host-sanitized" 7
 

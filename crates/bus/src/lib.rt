@@ -23,14 +23,15 @@ pub fn answer_frame(
     lock: &mut [u8; 6],
     pool: &mut [u8; 576],
     places: &mut [u8; 64],
+    tick: u16,
     header: u32,
     payload: &[u8],
     out: &mut [u8],
     frames: &mut [u8; 160],
 ) -> Sent
-    ensures answers { λ r. ⌜ Answers (frameCall (fixed alias «write_lengths» (spacesIn (now (spaces .entry))) (now (flash .entry))) (now (out .entry)) (stateIn (now (places .entry)) (now (pool .entry))) (contents (now (memory .entry)) (now (lock .entry))) (canFrame header (now (payload .entry)))) (r .answer) (now (out .entry)) (now (out .exit)) (now (memory .exit)) (now (lock .exit)) ⌝ }
-    ensures keeps { λ _. ⌜ Keeps (frameCall (fixed alias «write_lengths» (spacesIn (now (spaces .entry))) (now (flash .entry))) (now (out .entry)) (stateIn (now (places .entry)) (now (pool .entry))) (contents (now (memory .entry)) (now (lock .entry))) (canFrame header (now (payload .entry)))) (now (places .entry)) (now (places .exit)) (now (pool .exit)) ⌝ }
-    ensures sent { λ r. ⌜ Made (sentFor alias (sourceOf header) (frameCall (fixed alias «write_lengths» (spacesIn (now (spaces .entry))) (now (flash .entry))) (now (out .entry)) (stateIn (now (places .entry)) (now (pool .entry))) (contents (now (memory .entry)) (now (lock .entry))) (canFrame header (now (payload .entry))) .answer)) (r .count) (now (frames .entry)) (now (frames .exit)) ⌝ }
+    ensures answers { λ r. ⌜ Answers (frameCall (fixed alias «write_lengths» (spacesIn (now (spaces .entry))) (now (flash .entry))) (now (out .entry)) tick (stateIn (now (places .entry)) (now (pool .entry))) (contents (now (memory .entry)) (now (lock .entry))) (canFrame header (now (payload .entry)))) (r .answer) (now (out .entry)) (now (out .exit)) (now (memory .exit)) (now (lock .exit)) ⌝ }
+    ensures keeps { λ _. ⌜ Keeps (frameCall (fixed alias «write_lengths» (spacesIn (now (spaces .entry))) (now (flash .entry))) (now (out .entry)) tick (stateIn (now (places .entry)) (now (pool .entry))) (contents (now (memory .entry)) (now (lock .entry))) (canFrame header (now (payload .entry)))) (now (places .entry)) (now (places .exit)) (now (pool .exit)) ⌝ }
+    ensures sent { λ r. ⌜ Made (sentFor alias (sourceOf header) (frameCall (fixed alias «write_lengths» (spacesIn (now (spaces .entry))) (now (flash .entry))) (now (out .entry)) tick (stateIn (now (places .entry)) (now (pool .entry))) (contents (now (memory .entry)) (now (lock .entry))) (canFrame header (now (payload .entry))) .answer)) (r .count) (now (frames .entry)) (now (frames .exit)) ⌝ }
     ensures small { λ r. ⌜ SmallFrame (r .answer) ⌝ }
     ensures changes { λ r. ⌜ FrameChanges (r .answer) (now (memory .entry)) (now (memory .exit)) ⌝ }
     ensures order { λ _. ⌜ BusOrder (fixed alias «write_lengths» (spacesIn (now (spaces .entry))) (now (flash .entry))) ⌝ }
@@ -44,6 +45,7 @@ pub fn answer_frame(
         lock,
         pool,
         places,
+        tick,
         header,
         payload,
         out,

@@ -1,8 +1,8 @@
--- Laws of the frame call, and demand 3 of it.
+-- Laws of the frame call and the tick call, and demand 3 of them.
 -- Assumes nothing.
 use Prim.Native.Nat.{ℕ, _≤_}
-use mathlib.Core.Path.{_≡_, refl, ap, _∙_}
-use mathlib.Core.Bool.{true, false}
+use mathlib.Core.Path.{_≡_, refl, sym, ap, _∙_}
+use mathlib.Core.Bool.{Bool, true, false}
 use mathlib.Core.List.{List}
 use lib.ListN.{length}
 use borrow.Author.Tests.{le-ltb}
@@ -11,9 +11,13 @@ use Rattle.house.specs.declared.HouseNumber.{HouseNumber}
 use Rattle.house.specs.declared.HouseNumber.the-variants.{Good, B7}
 use Rattle.frame.specs.Frame.{CanFrame}
 use Rattle.reception.specs.Reception.{State}
-use Rattle.reception.specs.Order.{result, houseRefusal, answerEvent, handleFrame}
+use Rattle.reception.specs.Ticks.{tickAt}
+use Rattle.reception.specs.Order.{FrameResult, result, houseRefusal, answerEvent, handleFrame, handleInput}
+use Rattle.reception.specs.Aging.{isHouse}
 use Rattle.reception.specs.Books.{Event, ignored, noAnswer, refuse, finish, badState}
 use Rattle.reception.proofs.Order.{order}
+use Rattle.reception.proofs.Aging.{true-ages, eight-free}
+use Rattle.buffer.proofs.Choice.{clash, by-test}
 use Rattle.handling.specs.Access.{Changes}
 use Rattle.handling.specs.Handling.{Fixed, Contents, handle, Performs}
 use Rattle.handling.proofs.HandlingLaws.{whole, handle-bounds}
@@ -22,7 +26,9 @@ use Rattle.call.proofs.DatagramLaws.{answer-small}
 use Rattle.answer.specs.Answers.{Result, answerOf, bufferOf}
 use Rattle.answer.specs.declared.Answer.{Answer}
 use Rattle.answer.specs.declared.Answer.the-variants.{Rejected, Written, UpdateComplete, Replied}
-use Rattle.call.specs.FrameCall.{handler, frameCall, NodeOrder, Answers, SmallFrame, FrameChanges}
+use Rattle.call.specs.FrameCall.{handler, frameCall, Answers, SmallFrame, FrameChanges}
+use Rattle.call.specs.TickCall.{tickAnswer}
+use Rattle.call.specs.NodeOrder.{Call, frameAt, loneTickAt, heardOf, BufferFits, makeCall, NodeOrder, NodeAging}
 use Rattle.call.specs.declared.FrameAnswer.{FrameAnswer}
 use Rattle.call.specs.declared.FrameAnswer.the-variants.{Answered}
 
@@ -38,14 +44,6 @@ handle-keeps : (x : Fixed) (c : Contents) (d : List ℕ) → length (handle x c 
 handle-keeps x c d = changes-size (answerOf (handle x c d .result)) (c .memory) (handle x c d .contents .memory) (handle-bounds x c d .changes)
 
 -- ---- the frame call
-
--- what joining left of the state is left by the answer too
-pub answer-state : (h : Contents → List ℕ → Result × Contents) (st : State) (c : Contents) (e : Event) → answerEvent B7 h st c e .state ≡ st
-answer-state h st c ignored = refl
-answer-state h st c noAnswer = refl
-answer-state h st c (refuse code) = refl
-answer-state h st c (finish d) = refl
-answer-state h st c badState = refl
 
 -- a finished datagram, handled with a buffer that takes every reply
 pub answers-finish : (x : Fixed) (c : Contents) (d buffer : List ℕ) → 72 ≤ length buffer → {r : Answer} {after stored held : List ℕ} →
@@ -79,15 +77,21 @@ module _ (x : Fixed) (c : Contents) (st : State) {r : FrameAnswer} {before after
   event-changes (finish d) p = rw (p .answer, p .memory) (handle-bounds x c d .changes)
   event-changes badState p = rw (p .answer) (p .memory)
 
-module _ (x : Fixed) (buffer : List ℕ) (st : State) (c : Contents) (f : CanFrame) where
+module _ (x : Fixed) (buffer : List ℕ) (now : ℕ) (st : State) (c : Contents) (f : CanFrame) where
   pub call-refused : {house : HouseNumber} → house ≡ datagramHouse x (c .memory) buffer → isGood house ≡ false →
-      frameCall x buffer st c f ≡ result st c (houseRefusal house)
+      frameCall x buffer now st c f ≡ result st c (houseRefusal house)
   unfolding frameCall
   call-refused e q = rw (← e, q)
 
-  pub call-passed : isGood (datagramHouse x (c .memory) buffer) ≡ true → frameCall x buffer st c f ≡ handleFrame B7 (handler x) (x .alias) st c f
+  pub call-passed : isGood (datagramHouse x (c .memory) buffer) ≡ true → frameCall x buffer now st c f ≡ handleFrame B7 (handler x) (x .alias) now st c f
   unfolding frameCall
   call-passed q = rw q
+
+-- ---- the tick call
+
+pub tick-small : (b : Bool) → SmallFrame (tickAnswer b)
+tick-small true = tt
+tick-small false = tt
 
 -- ---- demand 3
 
@@ -96,9 +100,28 @@ house-good : (x : Fixed) (memory buffer : List ℕ) → descriptionHouse (x .ali
 unfolding datagramHouse
 house-good x memory buffer g h = rw (g, le-ltb (length buffer) 72 h)
 
+-- a call with a buffer that is large enough is not refused
+fine-call : (x : Fixed) (m : ℕ) → descriptionHouse (x .alias) (x .spaces) (length (x .flash)) m ≡ Good → (st : State) (c : Contents) (k : Call) →
+    length (c .memory) ≡ m → BufferFits k → makeCall x st c k ≡ handleInput B7 (handler x) (x .alias) st c (heardOf k .time) (heardOf k .input)
+fine-call x m g st c (frameAt t f buffer) e h = call-passed x buffer (tickAt t) st c f (house-good x (c .memory) buffer (rw e g) h)
+fine-call x m g st c (loneTickAt t) e h = refl
+
 pub node-order : (x : Fixed) → NodeOrder x
-node-order x m g =
-    order (λ k. k .frame) (λ k. 72 ≤ length (k .buffer)) (λ c. length (c .memory) ≡ m) B7 (handler x)
-    (λ c d e. handle-keeps x c d ∙ e) (x .alias)
-    (λ st c k. frameCall x (k .buffer) st c (k .frame))
-    (λ st c k e h. call-passed x (k .buffer) st c (k .frame) (house-good x (c .memory) (k .buffer) (rw e g) h))
+node-order x m g = order heardOf BufferFits (λ c. length (c .memory) ≡ m) B7 (handler x) (λ c d e. handle-keeps x c d ∙ e) (x .alias) (makeCall x) (fine-call x m g)
+
+-- ---- unfinished datagrams that grow old
+
+unrefused-call : (x : Fixed) (st : State) (c : Contents) (k : Call) → isHouse (makeCall x st c k .answer) ≡ false →
+    makeCall x st c k ≡ handleInput B7 (handler x) (x .alias) st c (heardOf k .time) (heardOf k .input)
+unrefused-call x st c (frameAt t f buffer) h =
+    by-test (isGood (datagramHouse x (c .memory) buffer))
+    (λ q. call-passed x buffer (tickAt t) st c f q)
+    (λ q. clash (ap (λ (r : FrameResult HouseNumber Contents Result). isHouse (r .answer)) (sym (call-refused x buffer (tickAt t) st c f refl q)) ∙ h))
+unrefused-call x st c (loneTickAt t) h = refl
+
+pub node-aging : (x : Fixed) → NodeAging x
+node-aging x =
+    record {
+      ages = true-ages heardOf B7 (handler x) (x .alias) (makeCall x) (unrefused-call x);
+      eight-free = eight-free heardOf B7 (handler x) (x .alias) (makeCall x) (unrefused-call x);
+    }

@@ -1,20 +1,19 @@
--- The frame call: the house numbers at every call, joining, and a finished datagram handled whole; and demand 3 of it.
-use Prim.Native.Nat.{ℕ, _≤_}
+-- The frame call: the house numbers at every call, joining, and a finished datagram handled whole.
+use Prim.Native.Nat.{ℕ}
 use mathlib.Core.Bool.{cond}
 use mathlib.Core.List.{List}
 use mathlib.Core.Path.{_≡_}
-use lib.ListN.{length}
-use Rattle.house.specs.HouseNumbers.{isGood, descriptionHouse}
+use Rattle.house.specs.HouseNumbers.{isGood}
 use Rattle.house.specs.declared.HouseNumber.{HouseNumber}
-use Rattle.house.specs.declared.HouseNumber.the-variants.{Good, B7}
+use Rattle.house.specs.declared.HouseNumber.the-variants.{B7}
 use Rattle.frame.specs.Frame.{CanFrame}
 use Rattle.reception.specs.Reception.{State}
 use Rattle.reception.specs.Order as order
-use Rattle.reception.specs.Order.{FrameResult, result, houseRefusal, ignoredFrame, nothing, transportRefusal, handled, handleFrame, OrderStatement}
+use Rattle.reception.specs.Order.{FrameResult, result, houseRefusal, ignoredFrame, nothing, transportRefusal, handled, handleFrame}
 use Rattle.reception.specs.PlaceBytes.{placesIn, renewed}
 use Rattle.answer.specs.Answers.{Result, answerOf, bufferOf, SmallAnswer}
 use Rattle.handling.specs.Access.{Changes}
-use Rattle.handling.specs.Handling.{Fixed, Contents, Outcome, handle, Short}
+use Rattle.handling.specs.Handling.{Fixed, Contents, handle, Short}
 use Rattle.call.specs.DatagramCall.{datagramHouse}
 use Rattle.call.specs.declared.FrameAnswer.{FrameAnswer}
 use Rattle.call.specs.declared.FrameAnswer.the-variants as answer
@@ -26,28 +25,12 @@ abbrev pub handler : Fixed → Contents → List ℕ → Result × Contents
 handler x c d = let o = handle x c d in (o .result, o .contents)
 
 -- "House numbers .. checked first at each call; nothing changes": those of the description and the buffer, then B7 of the state;
--- then the frame is joined, and a finished datagram handled.
-unfoldable pub frameCall : Fixed → List ℕ → State → Contents → CanFrame → FrameResult HouseNumber Contents Result
-frameCall x buffer st c f =
+-- then what is due at the tick `now` is dropped, the frame is joined, and a finished datagram handled.
+unfoldable pub frameCall : Fixed → List ℕ → ℕ → State → Contents → CanFrame → FrameResult HouseNumber Contents Result
+frameCall x buffer now st c f =
     cond (isGood (datagramHouse x (c .memory) buffer))
-    (handleFrame B7 (handler x) (x .alias) st c f)
+    (handleFrame B7 (handler x) (x .alias) now st c f)
     (result st c (houseRefusal (datagramHouse x (c .memory) buffer)))
-
--- ---- demand 3
-
--- A call of the driver: a frame, and the reply buffer lent for it.
-pub record Call : Type 0 where
-  pub frame : CanFrame
-  pub buffer : List ℕ
-
--- The order statement of the frame call: for every description that no house number refuses with flash and a memory of m bytes, every list
--- of calls, each with a buffer of at least 72 bytes, from a state with nothing unfinished, while at most eight tools are unfinished by
--- their books.
-abbrev pub NodeOrder : Fixed → Type 0
-NodeOrder x =
-    (m : ℕ) → descriptionHouse (x .alias) (x .spaces) (length (x .flash)) m ≡ Good
-    → OrderStatement {C = Call} (λ k. k .frame) (λ k. 72 ≤ length (k .buffer)) (λ c. length (c .memory) ≡ m) B7 (handler x) (x .alias)
-    (λ st c k. frameCall x (k .buffer) st c (k .frame))
 
 -- ---- what the code gives back
 

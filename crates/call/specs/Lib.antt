@@ -1,2 +1,4 @@
 pub mod DatagramCall
 pub mod FrameCall
+pub mod TickCall
+pub mod NodeOrder

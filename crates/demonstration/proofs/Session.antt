@@ -8,6 +8,7 @@ use Rattle.house.specs.HouseNumbers.{among, spacesHouse, descriptionHouse}
 use Rattle.fields.specs.Commands as commands
 use Rattle.fields.specs.Commands.{pairsOf, restOf}
 use Rattle.command.specs.Decoding.{decodeRead, decodeWrite, decodeMasked, decodeKind, decode}
+use Rattle.reception.specs.Ticks.{isDue, dropDue}
 use Rattle.reception.specs.Order.{handleFrame}
 use Rattle.reception.specs.PlaceBytes.{placesIn}
 use Rattle.reception.specs.Reception.{isFor, joinSound, receive}
@@ -33,5 +34,5 @@ use Rattle.session.specs.Session.{answerLines}
 use Rattle.demonstration.specs.PaperSession.{PaperSession}
 
 pub paper-session : PaperSession
-unfolding putAt placed kindOf addressed roleOf frameOf findSpace among spacesHouse descriptionHouse pairsOf commands.kindOf restOf decodeRead decodeWrite decodeMasked decodeKind decode handleFrame placesIn isFor joinSound receive restFrames framesOf cutFrames receivedOk rejectedWith replyHead readResult writeResult memoryAfter masked storeMasked perform handle datagramHouse frameCall framesToSend digitValue digitOf allDigits digitsOf bytesIn hexDigits numberIn lineOf formed parseOf frameText framesText completed unfinished endLine answerLine answerLines
+unfolding putAt placed kindOf addressed roleOf frameOf findSpace among spacesHouse descriptionHouse pairsOf commands.kindOf restOf decodeRead decodeWrite decodeMasked decodeKind decode isDue dropDue handleFrame placesIn isFor joinSound receive restFrames framesOf cutFrames receivedOk rejectedWith replyHead readResult writeResult memoryAfter masked storeMasked perform handle datagramHouse frameCall framesToSend digitValue digitOf allDigits digitsOf bytesIn hexDigits numberIn lineOf formed parseOf frameText framesText completed unfinished endLine answerLine answerLines
 paper-session = refl

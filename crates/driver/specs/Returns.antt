@@ -10,7 +10,7 @@ use Rattle.answer.specs.Answers.{Result}
 use Rattle.storing.specs.Storing.{OnlyWithin}
 use Rattle.handling.specs.Handling.{Contents}
 use Rattle.call.specs.DatagramCall.{Final}
-use Rattle.call.specs.FrameCall.{frameAnswerOf, frameBufferOf}
+use Rattle.call.specs.FrameCall.{frameAnswerOf, frameBufferOf, Keeps}
 use Rattle.result.specs.Result.{handledResult, frameResult}
 use Rattle.words.specs.declared.CallResult.{CallResult}
 
@@ -30,3 +30,10 @@ pub record FrameReturns (x : FrameResult HouseNumber Contents Result) (fs : List
   pub memory : stored ≡ x .world .memory
   pub changed : OnlyWithin (r .«changed_at») (r .«changed_len») old stored
   pub lock : held ≡ x .world .lock
+
+-- The same for the tick call: the numbers, and the bytes of the places, which were `before` and are `after`. The pool, memory and lock are
+-- not lent, and stay as they are.
+pub record TickReturns (x : FrameResult HouseNumber Contents Result) (r : CallResult) (before after pool : List ℕ) (c : Contents) : Type 0 where
+  pub answer : r ≡ frameResult (frameAnswerOf (x .answer)) 0
+  pub keeps : Keeps x before after pool
+  pub contents : c ≡ x .world

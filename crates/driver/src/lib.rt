@@ -6,7 +6,8 @@ use input::Next;
 use parsing::Parsed;
 use words::CallResult;
 ghost use mathlib.Core.Path.{_≡_};
-ghost use mathlib.Core.List.{[]};
+ghost use mathlib.Core.List.{List, []};
+ghost use Prim.Native.Nat.{ℕ};
 ghost use lib.ListN.{length};
 ghost use Rattle.buffer.specs.Buffer.{over};
 ghost use Rattle.frame.specs.Frame.{canFrame, sourceOf};
@@ -15,21 +16,22 @@ ghost use Rattle.table.specs.Table.{spacesIn};
 ghost use Rattle.reception.specs.PlaceBytes.{stateIn};
 ghost use Rattle.fragments.specs.Cutting.{cutFrames};
 ghost use Rattle.transport.specs.Transport.{receivedOk, rejectedWith};
-ghost use Rattle.handling.specs.Handling.{fixed, contents};
+ghost use Rattle.handling.specs.Handling.{Contents, fixed, contents};
 ghost use Rattle.call.specs.DatagramCall.{datagramCall};
 ghost use Rattle.call.specs.FrameCall.{frameCall, Keeps};
+ghost use Rattle.call.specs.TickCall.{tickCall};
 ghost use Rattle.sending.specs.Sending.{sentFor};
 ghost use Rattle.gridconnect.specs.Line.{frameText, Printed};
 ghost use Rattle.parsing.specs.Parsing.{parseOf};
 ghost use Rattle.input.specs.Input.{carryOf, line, nextOf, lastOf};
-ghost use Rattle.driver.specs.Returns.{DatagramReturns, FrameReturns};
+ghost use Rattle.driver.specs.Returns.{DatagramReturns, FrameReturns, TickReturns};
 
 // The version of this edge, major in the upper 16 bits and minor in the lower: a header of the same major and of no greater minor fits.
-const VERSION: u32 = 0x00030000;
+const VERSION: u32 = 0x00040000;
 
 #[no_mangle]
 pub extern "C" fn bujorelm_version() -> u32
-    ensures { λ r. ⌜ r ≡ 0x00030000 ⌝ }
+    ensures { λ r. ⌜ r ≡ 0x00040000 ⌝ }
 {
     VERSION
 }
@@ -46,14 +48,15 @@ pub extern "C" fn bujorelm_handle_frame(
     lock: &mut [u8; 6],
     pool: &mut [u8; 576],
     places: &mut [u8; 64],
+    tick: u16,
     header: u32,
     payload: &[u8],
     reply: &mut [u8],
     frames: &mut [u8; 160],
 ) -> CallResult
-    ensures returns { λ r. ⌜ FrameReturns (frameCall (fixed alias «write_lengths» (spacesIn (now (spaces .entry))) (now (flash .entry))) (now (reply .entry)) (stateIn (now (places .entry)) (now (pool .entry))) (contents (now (memory .entry)) (now (lock .entry))) (canFrame header (now (payload .entry)))) (sentFor alias (sourceOf header) ((frameCall (fixed alias «write_lengths» (spacesIn (now (spaces .entry))) (now (flash .entry))) (now (reply .entry)) (stateIn (now (places .entry)) (now (pool .entry))) (contents (now (memory .entry)) (now (lock .entry))) (canFrame header (now (payload .entry)))) .answer)) r (now (reply .entry)) (now (reply .exit)) (now (memory .entry)) (now (memory .exit)) (now (lock .exit)) ⌝ }
-    ensures keeps { λ _. ⌜ Keeps (frameCall (fixed alias «write_lengths» (spacesIn (now (spaces .entry))) (now (flash .entry))) (now (reply .entry)) (stateIn (now (places .entry)) (now (pool .entry))) (contents (now (memory .entry)) (now (lock .entry))) (canFrame header (now (payload .entry)))) (now (places .entry)) (now (places .exit)) (now (pool .exit)) ⌝ }
-    ensures sent { λ _. ⌜ now (frames .exit) ≡ over (framesBytes (sentFor alias (sourceOf header) ((frameCall (fixed alias «write_lengths» (spacesIn (now (spaces .entry))) (now (flash .entry))) (now (reply .entry)) (stateIn (now (places .entry)) (now (pool .entry))) (contents (now (memory .entry)) (now (lock .entry))) (canFrame header (now (payload .entry)))) .answer))) (now (frames .entry)) ⌝ }
+    ensures returns { λ r. ⌜ FrameReturns (frameCall (fixed alias «write_lengths» (spacesIn (now (spaces .entry))) (now (flash .entry))) (now (reply .entry)) tick (stateIn (now (places .entry)) (now (pool .entry))) (contents (now (memory .entry)) (now (lock .entry))) (canFrame header (now (payload .entry)))) (sentFor alias (sourceOf header) ((frameCall (fixed alias «write_lengths» (spacesIn (now (spaces .entry))) (now (flash .entry))) (now (reply .entry)) tick (stateIn (now (places .entry)) (now (pool .entry))) (contents (now (memory .entry)) (now (lock .entry))) (canFrame header (now (payload .entry)))) .answer)) r (now (reply .entry)) (now (reply .exit)) (now (memory .entry)) (now (memory .exit)) (now (lock .exit)) ⌝ }
+    ensures keeps { λ _. ⌜ Keeps (frameCall (fixed alias «write_lengths» (spacesIn (now (spaces .entry))) (now (flash .entry))) (now (reply .entry)) tick (stateIn (now (places .entry)) (now (pool .entry))) (contents (now (memory .entry)) (now (lock .entry))) (canFrame header (now (payload .entry)))) (now (places .entry)) (now (places .exit)) (now (pool .exit)) ⌝ }
+    ensures sent { λ _. ⌜ now (frames .exit) ≡ over (framesBytes (sentFor alias (sourceOf header) ((frameCall (fixed alias «write_lengths» (spacesIn (now (spaces .entry))) (now (flash .entry))) (now (reply .entry)) tick (stateIn (now (places .entry)) (now (pool .entry))) (contents (now (memory .entry)) (now (lock .entry))) (canFrame header (now (payload .entry)))) .answer))) (now (frames .entry)) ⌝ }
 {
     let sent = bus::answer_frame(
         alias,
@@ -64,6 +67,7 @@ pub extern "C" fn bujorelm_handle_frame(
         lock,
         pool,
         places,
+        tick,
         header,
         payload,
         reply,
@@ -71,6 +75,14 @@ pub extern "C" fn bujorelm_handle_frame(
     );
     let answer = sent.answer;
     result::of_frame(answer, sent.count)
+}
+
+// Hears a tick that comes with no frame: the only house number that it tests is B7.
+#[no_mangle]
+pub extern "C" fn bujorelm_handle_tick(places: &mut [u8; 64], tick: u16) -> CallResult
+    ensures { λ r. ⌜ ((pool : List ℕ) (c : Contents) → TickReturns (tickCall tick (stateIn (now (places .entry)) pool) c) r (now (places .entry)) (now (places .exit)) pool c) ⌝ }
+{
+    result::of_tick(ticking::handle_tick(places, tick))
 }
 
 // Handles a datagram that is handed over whole.

@@ -3,7 +3,7 @@
 use Prim.Native.Nat.{ℕ, suc, _+_, _-_, _≤_, _<_}
 use mathlib.Core.Path.{_≡_, refl, sym, ap, _∙_, subst}
 use mathlib.Core.Logic.{_≢_}
-use mathlib.Core.Bool.{Bool, true, false}
+use mathlib.Core.Bool.{Bool, true, false, cond}
 use mathlib.Core.List.{List, [], _∷_, _++_, map, append-assoc}
 use native.Mathlib.Nat.{le-of-eq}
 use native.Mathlib.Omega.{arith}
@@ -12,14 +12,21 @@ use lib.ListN.{length, take, drop, replicate, length-append, length-drop, take-a
 use lib.Seq.{length-take-le, take-append-seam}
 use borrow.Author.Tests.{le-leb, leb-true, leb-false, ne-eqb}
 use Rattle.frame.specs.declared.Frame.{Frame}
+use Rattle.frame.specs.declared.Role.{Role}
 use Rattle.frame.specs.declared.Role.the-variants.{First, Middle, Last}
 use Rattle.frame.specs.Frame.{CanFrame, canFrame, sourceOf, kindOf, roleOf, headerOf, frameOf}
 use Rattle.frame.proofs.Laws.{source-of-header, role-of-header}
-use Rattle.reception.specs.Books.{Book, blank, holds, Event, noAnswer, finish, fits, bookRule, enterFrame}
-use Rattle.reception.specs.Reception.{State, unfinishedFor, full, receive, receiveAll}
-use Rattle.fragments.specs.Cutting.{first, middle, restFrames, framesOf, carried, CutJoins}
-use Rattle.reception.proofs.PlaceLaws.{Good, sound-good}
-use Rattle.reception.proofs.StepLaws.{Sized, Step, received}
+use Rattle.reception.specs.Place.{Place}
+use Rattle.reception.specs.Ticks.{age}
+use Rattle.reception.specs.Books.{Book, blank, holds, Event, noAnswer, finish, Entry, fits, bookRule}
+use Rattle.reception.specs.Times.{frameInput, isAccepted}
+use Rattle.reception.specs.Reception.{State, isFor, unfinishedFor, full, atTick, Joined, receive, receiveAll}
+use Rattle.reception.specs.Order.{Each}
+use Rattle.fragments.specs.Cutting.{single, first, middle, last, restFrames, framesOf, carried, PromptAfter, Prompt, CutJoins}
+use Rattle.reception.proofs.PlaceLaws.{Good, sound-good, good-sound, blank-of, blank-none}
+use Rattle.reception.proofs.StepLaws.{Sized, Step, entryOf, with-room}
+use Rattle.reception.proofs.DropLaws.{none-due, room-due, unfinished-young, turned-tick}
+use Rattle.reception.proofs.InputLaws.{taken, receive-is, frame-step}
 use Rattle.fragments.proofs.CutLaws.{aliases-are, by-eights, rest-last, rest-more, rest-some, cut-is}
 
 -- ---- a frame over the bus
@@ -40,53 +47,88 @@ quiet-more e f (g ∷ fs) h =
     let q : length (f ∷ g ∷ fs) - 1 ≡ suc (length (g ∷ fs) - 1) = omega arith in
     ap (λ (n : ℕ). replicate n noAnswer ++ e ∷ []) (sym q)
 
+-- no frame is left
+no-more : (alias : ℕ) (st : State) (ticks : List ℕ) → receiveAll alias st ticks [] ≡ []
+no-more alias st [] = refl
+no-more alias st (now ∷ ticks) = refl
+
+-- what is kept for s has the tick `now`
+abbrev Ticked : ℕ → ℕ → State → Type 0
+Ticked now s st = Each (λ (p : Place). isFor s p ≡ true → p .tick ≡ now) (st .places)
+
+-- at a tick at most 3,000 later it is young
+young : (s then now : ℕ) (ps : List Place) → age now then ≤ 3000 → Each (λ (p : Place). isFor s p ≡ true → p .tick ≡ then) ps →
+    Each (λ (p : Place). isFor s p ≡ true → age now (p .tick) ≤ 3000) ps
+young s then now [] h t = tt
+young s then now (p ∷ ps) h t = (λ u. rw (t .0 u) h, young s then now ps h (t .1))
+
 module _ (alias s : ℕ) (ha : alias ≤ 4095) (hs : s ≤ 4095) (ne : s ≢ alias) where
   -- a frame of s that is cut for the board
   abbrev piece : ℕ → List ℕ → Frame
   piece k xs = frameOf (headerOf k alias s) xs
 
-  -- joined, it does at s what the book's rule says
-  joins : (k : ℕ) (xs : List ℕ) (st : State) (b : Book) → k < 32 → length xs ≤ 8 → Good (st .places) → Sized st → unfinishedFor st s ≡ b →
-      (kindOf k ≡ First → full (st .places) ≡ false) → Step st s (receive alias st (carried (piece k xs))) (bookRule (kindOf k) xs b)
-  joins k xs st b hk hx g z h room =
+  -- joined at the tick `now`, it does at s what the book's rule says
+  joins : (k now : ℕ) (xs : List ℕ) (st : State) (b : Book) → k < 32 → length xs ≤ 8 → Good (st .places) → Sized st → unfinishedFor (atTick now st) s ≡ b →
+      (kindOf k ≡ First → full (atTick now st .places) ≡ false) → Step now (atTick now st) s (receive alias now st (carried (piece k xs))) (bookRule (kindOf k) xs b)
+  joins k now xs st b hk hx g z h room =
       let r : roleOf alias (headerOf k alias s) (length xs) ≡ kindOf k = role-of-header k alias s ha hs (length xs) hk hx ne in
       let q : sourceOf (headerOf k alias s) ≡ s = source-of-header k alias s ha hs in
       let f : CanFrame = canFrame (headerOf k alias s) xs in
-      let p : Step st s (receive alias st f) (enterFrame alias f (unfinishedFor st s)) =
-      subst (λ (t : ℕ). Step st t (receive alias st f) (enterFrame alias f (unfinishedFor st t))) q
-      (received alias f st g z (λ e u. room (sym r ∙ e))) in
-      rw (carried-is (headerOf k alias s) xs, ← h, ← r) p
+      let mid : State = atTick now st in
+      let x : entryOf (full (mid .places)) (roleOf alias (headerOf k alias s) (length xs)) xs (unfinishedFor mid (sourceOf (headerOf k alias s))) ≡ bookRule (kindOf k) xs b =
+      ap (λ (t : ℕ). entryOf (full (mid .places)) (roleOf alias (headerOf k alias s) (length xs)) xs (unfinishedFor mid t)) q
+      ∙ ap (entryOf (full (mid .places)) (roleOf alias (headerOf k alias s) (length xs)) xs) h
+      ∙ ap (λ (v : Role). entryOf (full (mid .places)) v xs b) r
+      ∙ with-room (full (mid .places)) (kindOf k) xs b (λ e u. room e) in
+      let p : Step now mid s (taken alias now st (frameInput f)) (bookRule (kindOf k) xs b) =
+      subst (λ (t : ℕ). Step now mid t (taken alias now st (frameInput f)) (bookRule (kindOf k) xs b)) q
+      (subst (λ (e : Entry). Step now mid (sourceOf (headerOf k alias s)) (taken alias now st (frameInput f)) e) x (frame-step alias now f st g z)) in
+      subst (λ (j : Joined). Step now mid s j (bookRule (kindOf k) xs b))
+      (sym (ap (receive alias now st) (carried-is (headerOf k alias s) xs) ∙ receive-is alias now st f (good-sound (st .places) g))) p
 
   abbrev RestJoins : List ℕ → Type 0
   RestJoins xs =
-      (st : State) (b : List ℕ) → Good (st .places) → Sized st → unfinishedFor st s ≡ holds b → length b + length xs ≤ 72
-      → receiveAll alias st (map carried (restFrames alias s xs)) ≡ quietUntil (restFrames alias s xs) (finish (b ++ xs))
+      (st : State) (b ticks : List ℕ) (then : ℕ) → Good (st .places) → Sized st → unfinishedFor st s ≡ holds b → Ticked then s st → length b + length xs ≤ 72
+      → length ticks ≡ length (restFrames alias s xs) → PromptAfter then ticks
+      → receiveAll alias st ticks (map carried (restFrames alias s xs)) ≡ quietUntil (restFrames alias s xs) (finish (b ++ xs))
+
+  -- what is kept for s is not dropped at the next tick
+  kept : (st : State) (b : Book) (then now : ℕ) → unfinishedFor st s ≡ b → Ticked then s st → age now then ≤ 3000 → unfinishedFor (atTick now st) s ≡ b
+  kept st b then now h t p = unfinished-young now s (st .places) (st .pool) (young s then now (st .places) p t) ∙ h
 
   -- a Last appends what is left, and finishes
   rest-short : (xs : List ℕ) → length xs ≤ 8 → RestJoins xs
   unfolding kindOf
-  rest-short xs l st b g z h t =
-      let j = joins 0x1D xs st (holds b) (omega arith) l g z h (λ e. absurd (let x : _≡_ {A = ℕ} 0 1 = cc in omega arith)) in
+  rest-short xs l st b [] then g z h w t n p = absurd (omega (arith, rest-some alias s xs))
+  rest-short xs l st b (now ∷ ticks) then g z h w t n p =
+      let j = joins 0x1D now xs st (holds b) (omega arith) l g z (kept st (holds b) then now h w (p .0)) (λ e. absurd (let x : _≡_ {A = ℕ} 0 1 = cc in omega arith)) in
       let e : bookRule Last xs (holds b) .event ≡ finish (b ++ xs) = rw (le-leb (length b + length xs) 72 t) in
-      rw (rest-last alias s xs l) (ap (λ (v : Event). v ∷ []) (j .event ∙ e))
+      let left : State = receive alias now st (carried (last alias s xs)) .state in
+      rw (rest-last alias s xs l)
+      (ap (λ (v : Event). v ∷ receiveAll alias left ticks []) (j .event ∙ e) ∙ ap (λ (vs : List Event). finish (b ++ xs) ∷ vs) (no-more alias left ticks))
 
   -- a Middle appends 8 bytes, without an answer
   rest-long : (xs : List ℕ) → 8 < length xs → RestJoins (drop 8 xs) → RestJoins xs
   unfolding kindOf
-  rest-long xs l ih st b g z h t =
+  rest-long xs l ih st b [] then g z h w t n p = absurd (omega (arith, rest-some alias s xs))
+  rest-long xs l ih st b (now ∷ ticks) then g z h w t n p =
       let m : length (take 8 xs) ≡ 8 = length-take-le 8 xs (omega arith) in
       let d : length (drop 8 xs) ≡ length xs - 8 = length-drop 8 xs in
-      let j = joins 0x1C (take 8 xs) st (holds b) (omega arith) (le-of-eq m) g z h (λ e. absurd (let x : _≡_ {A = ℕ} 0 1 = cc in omega arith)) in
+      let j = joins 0x1C now (take 8 xs) st (holds b) (omega arith) (le-of-eq m) g z (kept st (holds b) then now h w (p .0)) (λ e. absurd (let x : _≡_ {A = ℕ} 0 1 = cc in omega arith)) in
       let f : fits b (take 8 xs) ≡ true = le-leb (length b + length (take 8 xs)) 72 (omega arith) in
-      let n : eqb (length (take 8 xs)) 0 ≡ false = ne-eqb (length (take 8 xs)) 0 (λ e. omega arith) in
-      let e : bookRule Middle (take 8 xs) (holds b) .event ≡ noAnswer = rw (n, f) in
-      let o : bookRule Middle (take 8 xs) (holds b) .book ≡ holds (b ++ take 8 xs) = rw (n, f) in
-      let w : b ++ take 8 xs ++ drop 8 xs ≡ b ++ xs = rw (append-assoc, take-append-drop 8 xs) in
+      let y : eqb (length (take 8 xs)) 0 ≡ false = ne-eqb (length (take 8 xs)) 0 (λ e. omega arith) in
+      let e : bookRule Middle (take 8 xs) (holds b) .event ≡ noAnswer = rw (y, f) in
+      let o : bookRule Middle (take 8 xs) (holds b) .book ≡ holds (b ++ take 8 xs) = rw (y, f) in
+      let u : b ++ take 8 xs ++ drop 8 xs ≡ b ++ xs = rw (append-assoc, take-append-drop 8 xs) in
       let rest : List Frame = restFrames alias s (drop 8 xs) in
-      let r = ih (receive alias st (carried (middle alias s (take 8 xs))) .state) (b ++ take 8 xs) (j .good) (j .sized) (j .own ∙ o) (rw length-append (omega arith)) in
-      rw (rest-more alias s xs l)
-      (ap (λ (v : Event). v ∷ receiveAll alias (receive alias st (carried (middle alias s (take 8 xs))) .state) (map carried rest)) (j .event ∙ e)
-      ∙ ap (λ (vs : List Event). noAnswer ∷ vs) (r ∙ ap (λ (ys : List ℕ). quietUntil rest (finish ys)) w)
+      let more : restFrames alias s xs ≡ middle alias s (take 8 xs) ∷ rest = rest-more alias s xs l in
+      let left : State = receive alias now st (carried (middle alias s (take 8 xs))) .state in
+      let a : isAccepted (receive alias now st (carried (middle alias s (take 8 xs))) .event) ≡ true = ap isAccepted (j .event ∙ e) in
+      let k : suc (length ticks) ≡ suc (length rest) = n ∙ ap length more in
+      let r = ih left (b ++ take 8 xs) ticks now (j .good) (j .sized) (j .own ∙ o) (turned-tick now s _ (atTick now st .places) (left .places) a (j .turned)) (rw length-append (omega arith)) (omega arith) (p .1) in
+      rw more
+      (ap (λ (v : Event). v ∷ receiveAll alias left ticks (map carried rest)) (j .event ∙ e)
+      ∙ ap (λ (vs : List Event). noAnswer ∷ vs) (r ∙ ap (λ (ys : List ℕ). quietUntil rest (finish ys)) u)
       ∙ quiet-more (finish (b ++ xs)) (middle alias s (take 8 xs)) rest (rest-some alias s (drop 8 xs)))
 
   rest-joins : (xs : List ℕ) → RestJoins xs
@@ -95,27 +137,41 @@ module _ (alias s : ℕ) (ha : alias ≤ 4095) (hs : s ≤ 4095) (ne : s ≢ ali
   -- ---- the datagram whole
 
   module _ (xs : List ℕ) (st : State) (g : Good (st .places)) (z : Sized st) (h : unfinishedFor st s ≡ blank) where
-    frames-join : length xs ≤ 72 → full (st .places) ≡ false → receiveAll alias st (map carried (framesOf alias s xs)) ≡ quietUntil (framesOf alias s xs) (finish xs)
+    -- nothing is unfinished of s at any tick
+    none : (now : ℕ) → unfinishedFor (atTick now st) s ≡ blank
+    none now = blank-of s (atTick now st .places) (st .pool) (none-due now s (st .places) (blank-none s (st .places) (st .pool) h))
+
+    frames-join : length xs ≤ 72 → full (st .places) ≡ false → (ticks : List ℕ) → length ticks ≡ length (framesOf alias s xs) → Prompt ticks →
+        receiveAll alias st ticks (map carried (framesOf alias s xs)) ≡ quietUntil (framesOf alias s xs) (finish xs)
     unfolding framesOf kindOf
-    frames-join k room = go (leb (length xs) 8) refl
+    frames-join k room [] n p = absurd (go (leb (length xs) 8) n)
       where
-        go : (t : Bool) → leb (length xs) 8 ≡ t → receiveAll alias st (map carried (framesOf alias s xs)) ≡ quietUntil (framesOf alias s xs) (finish xs)
+        go : (t : Bool) → 0 ≡ length (cond t (single alias s xs ∷ []) (first alias s (take 8 xs) ∷ restFrames alias s (drop 8 xs))) → ⊥
+        go true e = omega arith
+        go false e = omega arith
+    frames-join k room (now ∷ ticks) n p = go (leb (length xs) 8) refl
+      where
+        go : (t : Bool) → leb (length xs) 8 ≡ t → receiveAll alias st (now ∷ ticks) (map carried (framesOf alias s xs)) ≡ quietUntil (framesOf alias s xs) (finish xs)
         go true q =
-            let j = joins 0x1A xs st blank (omega arith) (leb-true (length xs) 8 q) g z h (λ e. room) in
-            rw q (ap (λ (v : Event). v ∷ []) (j .event))
+            let j = joins 0x1A now xs st blank (omega arith) (leb-true (length xs) 8 q) g z (none now) (λ e. room-due now (st .places) room) in
+            let left : State = receive alias now st (carried (single alias s xs)) .state in
+            rw q (ap (λ (v : Event). v ∷ receiveAll alias left ticks []) (j .event) ∙ ap (λ (vs : List Event). finish xs ∷ vs) (no-more alias left ticks))
         go false q =
             let l : 8 < length xs = omega (arith, leb-false (length xs) 8 q) in
             let m : length (take 8 xs) ≡ 8 = length-take-le 8 xs (omega arith) in
             let d : length (drop 8 xs) ≡ length xs - 8 = length-drop 8 xs in
-            let j = joins 0x1B (take 8 xs) st blank (omega arith) (le-of-eq m) g z h (λ e. room) in
+            let j = joins 0x1B now (take 8 xs) st blank (omega arith) (le-of-eq m) g z (none now) (λ e. room-due now (st .places) room) in
             let rest : List Frame = restFrames alias s (drop 8 xs) in
-            let r = rest-joins (drop 8 xs) (receive alias st (carried (first alias s (take 8 xs))) .state) (take 8 xs) (j .good) (j .sized) (j .own) (omega arith) in
+            let left : State = receive alias now st (carried (first alias s (take 8 xs))) .state in
+            let a : isAccepted (receive alias now st (carried (first alias s (take 8 xs))) .event) ≡ true = ap isAccepted (j .event) in
+            let i : suc (length ticks) ≡ suc (length rest) = rw q at n in
+            let r = rest-joins (drop 8 xs) left (take 8 xs) ticks now (j .good) (j .sized) (j .own) (turned-tick now s _ (atTick now st .places) (left .places) a (j .turned)) (omega arith) (omega arith) p in
             rw q
-            (ap (λ (v : Event). v ∷ receiveAll alias (receive alias st (carried (first alias s (take 8 xs))) .state) (map carried rest)) (j .event)
+            (ap (λ (v : Event). v ∷ receiveAll alias left ticks (map carried rest)) (j .event)
             ∙ ap (λ (vs : List Event). noAnswer ∷ vs) (r ∙ ap (λ (ys : List ℕ). quietUntil rest (finish ys)) (take-append-drop 8 xs))
             ∙ quiet-more (finish xs) (first alias s (take 8 xs)) rest (rest-some alias s (drop 8 xs)))
 
 pub cut-joins : CutJoins
-cut-joins alias s xs st k ha hs ne eight bytes ok room h =
-    rw (cut-is alias s xs k (aliases-are alias s ha hs))
-    (frames-join alias s ha hs ne xs st (sound-good (st .places) ok) (record { eight = eight; bytes = bytes }) h k room)
+cut-joins alias s xs ticks st k ha hs ne eight bytes ok room h n p =
+    let c = cut-is alias s xs k (aliases-are alias s ha hs) in
+    rw c (frames-join alias s ha hs ne xs st (sound-good (st .places) ok) (record { eight = eight; bytes = bytes }) h k room ticks (rw c at n) p)

@@ -8,6 +8,7 @@ use lib.Dec.{leb}
 use lib.ListN.{length, take, drop, replicate}
 use Rattle.frame.specs.declared.Frame.{Frame}
 use Rattle.frame.specs.Frame.{CanFrame, canFrame, headerOf, frameOf}
+use Rattle.reception.specs.Ticks.{age}
 use Rattle.reception.specs.Books.{noAnswer, finish, blank}
 use Rattle.reception.specs.Reception.{State, sound, full, unfinishedFor, receiveAll}
 
@@ -59,10 +60,22 @@ cutFrames xs d s = cond (leb (length xs) 72 && aliases d s) (framesOf d s xs) []
 abbrev pub carried : Frame → CanFrame
 carried f = canFrame (f .header) (take (f .len) (f .bytes))
 
--- Every datagram of at most 72 bytes, cut by the source s for the board and joined there, frame by frame, is finished as it was at the
--- last frame, and no frame before that is answered: from any state that B7 lets pass with a free place and nothing unfinished of s.
+-- Ticks of which each is at most 3,000 after the one before it, the first being such after `then`.
+abbrev pub PromptAfter : ℕ → List ℕ → Type 0
+PromptAfter then [] = Unit {0}
+PromptAfter then (now ∷ ticks) = (age now then ≤ 3000) × PromptAfter now ticks
+
+-- The first may be any tick.
+abbrev pub Prompt : List ℕ → Type 0
+Prompt [] = Unit {0}
+Prompt (now ∷ ticks) = PromptAfter now ticks
+
+-- Every datagram of at most 72 bytes, cut by the source s for the board and joined there, frame by frame, each at most 3,000 ticks after the
+-- one before, is finished as it was at the last frame, and no frame before that is answered: from any state that B7 lets pass with a free
+-- place and nothing unfinished of s.
 abbrev pub CutJoins : Type 0
 CutJoins =
-    (alias s : ℕ) (xs : List ℕ) (st : State) → length xs ≤ 72 → alias ≤ 4095 → s ≤ 4095 → s ≢ alias → length (st .places) ≡ 8
+    (alias s : ℕ) (xs ticks : List ℕ) (st : State) → length xs ≤ 72 → alias ≤ 4095 → s ≤ 4095 → s ≢ alias → length (st .places) ≡ 8
     → length (st .pool) ≡ 576 → sound (st .places) ≡ true → full (st .places) ≡ false → unfinishedFor st s ≡ blank
-    → receiveAll alias st (map carried (cutFrames xs alias s)) ≡ replicate (length (cutFrames xs alias s) - 1) noAnswer ++ finish xs ∷ []
+    → length ticks ≡ length (cutFrames xs alias s) → Prompt ticks
+    → receiveAll alias st ticks (map carried (cutFrames xs alias s)) ≡ replicate (length (cutFrames xs alias s) - 1) noAnswer ++ finish xs ∷ []

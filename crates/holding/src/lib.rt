@@ -10,42 +10,42 @@ ghost use Rattle.reception.specs.PlaceBytes.{placeBytes};
 const SPARE: u8 = 0;
 
 // The bytes of a place.
-fn bytes_of(held: bool, len: u8, source: u16) -> [u8; 8]
-    ensures { λ r. ⌜ r ≡ placeBytes (place held len source) ⌝ }
+fn bytes_of(held: bool, len: u8, source: u16, tick: u16) -> [u8; 8]
+    ensures { λ r. ⌜ r ≡ placeBytes (place held len source tick) ⌝ }
 {
     [
         held as u8,
         len,
         (source % 256) as u8,
         (source / 256) as u8,
-        SPARE,
-        SPARE,
+        (tick % 256) as u8,
+        (tick / 256) as u8,
         SPARE,
         SPARE,
     ]
 }
 
 // The bytes of place i, as far as it is there. The test keeps `8 * i` small; `put` copies nothing that does not fit.
-fn put_place(places: &mut [u8], i: usize, held: bool, len: u8, source: u16)
-    ensures { λ _. ⌜ now (places .exit) ≡ placed (8 * i) (placeBytes (place held len source)) (now (places .entry)) ⌝ }
+fn put_place(places: &mut [u8], i: usize, held: bool, len: u8, source: u16, tick: u16)
+    ensures { λ _. ⌜ now (places .exit) ≡ placed (8 * i) (placeBytes (place held len source tick)) (now (places .entry)) ⌝ }
 {
     if places.len() / 8 <= i {
         return;
     }
-    let bytes = bytes_of(held, len, source);
+    let bytes = bytes_of(held, len, source, tick);
     buffer::put(places, 8 * i, &bytes);
 }
 
-// Place i holds `len` bytes of the source. A datagram opened with zero bytes is held too.
-pub fn hold(places: &mut [u8], i: usize, source: u16, len: u8)
-    ensures { λ _. ⌜ now (places .exit) ≡ placed (8 * i) (placeBytes (heldFor source len)) (now (places .entry)) ⌝ }
+// Place i holds `len` bytes of the source, whose last accepted frame came at the tick. A datagram opened with zero bytes is held too.
+pub fn hold(places: &mut [u8], i: usize, source: u16, len: u8, tick: u16)
+    ensures { λ _. ⌜ now (places .exit) ≡ placed (8 * i) (placeBytes (heldFor source len tick)) (now (places .entry)) ⌝ }
 {
-    put_place(places, i, true, len, source);
+    put_place(places, i, true, len, source, tick);
 }
 
 // Place i becomes free.
 pub fn free(places: &mut [u8], i: usize)
     ensures { λ _. ⌜ now (places .exit) ≡ placed (8 * i) (placeBytes freePlace) (now (places .entry)) ⌝ }
 {
-    put_place(places, i, false, 0, 0);
+    put_place(places, i, false, 0, 0, 0);
 }

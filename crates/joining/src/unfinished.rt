@@ -28,16 +28,16 @@ fn refuse(places: &mut [u8], i: usize, code: u16) -> Outcome
 }
 
 // A First: opens a datagram in the first free place.
-fn open(pool: &mut [u8], places: &mut [u8; 64], source: u16, payload: &[u8]) -> Outcome
+fn open(pool: &mut [u8], places: &mut [u8; 64], source: u16, payload: &[u8], tick: u16) -> Outcome
     requires { ⌜ Lent (now pool) (now payload) ⌝ }
-    ensures { λ o. ⌜ Joins (performed does.Open true source 8 (now (payload .entry)) (stateIn (now (places .entry)) (now (pool .entry)))) (now (payload .entry)) o (now (places .entry)) (now (places .exit)) (now (pool .exit)) ⌝ }
+    ensures { λ o. ⌜ Joins (performed does.Open true source 8 (now (payload .entry)) tick (stateIn (now (places .entry)) (now (pool .entry)))) (now (payload .entry)) o (now (places .entry)) (now (places .exit)) (now (pool .exit)) ⌝ }
 {
     let i = sources::find_free(places);
     if 8 <= i {
         return Outcome::Refuse(BUFFER_UNAVAILABLE);
     }
     buffer::put(pool, ROOM * i, payload);
-    holding::hold(places, i, source, payload.len() as u8);
+    holding::hold(places, i, source, payload.len() as u8, tick);
     Outcome::NoAnswer
 }
 
@@ -49,19 +49,20 @@ fn append(
     source: u16,
     len: u8,
     payload: &[u8],
+    tick: u16,
 ) -> Outcome
     requires { ⌜ Lent (now pool) (now payload) × Fitting i len false (now places) (now payload) ⌝ }
-    ensures { λ o. ⌜ Joins (performed does.Append true source i (now (payload .entry)) (stateIn (now (places .entry)) (now (pool .entry)))) (now (payload .entry)) o (now (places .entry)) (now (places .exit)) (now (pool .exit)) ⌝ }
+    ensures { λ o. ⌜ Joins (performed does.Append true source i (now (payload .entry)) tick (stateIn (now (places .entry)) (now (pool .entry)))) (now (payload .entry)) o (now (places .entry)) (now (places .exit)) (now (pool .exit)) ⌝ }
 {
     buffer::put(pool, ROOM * i + len as usize, payload);
-    holding::hold(places, i, source, len + payload.len() as u8);
+    holding::hold(places, i, source, len + payload.len() as u8, tick);
     Outcome::NoAnswer
 }
 
 // A Last: appends to the `len` bytes in place i, and closes the datagram; its bytes stay in the pool until the place is used again.
 fn close(pool: &mut [u8], places: &mut [u8; 64], i: usize, len: u8, payload: &[u8]) -> Outcome
     requires { ⌜ Lent (now pool) (now payload) × Fitting i len true (now places) (now payload) ⌝ }
-    ensures { λ o. ⌜ Joins (performed does.Close true 0 i (now (payload .entry)) (stateIn (now (places .entry)) (now (pool .entry)))) (now (payload .entry)) o (now (places .entry)) (now (places .exit)) (now (pool .exit)) ⌝ }
+    ensures { λ o. ⌜ Joins (performed does.Close true 0 i (now (payload .entry)) 0 (stateIn (now (places .entry)) (now (pool .entry)))) (now (payload .entry)) o (now (places .entry)) (now (places .exit)) (now (pool .exit)) ⌝ }
 {
     let from = ROOM * i;
     let end = from + len as usize;
@@ -77,10 +78,11 @@ pub fn join_sound(
     role: Role,
     source: u16,
     payload: &[u8],
+    tick: u16,
     i: usize,
 ) -> Outcome
     requires { ⌜ Lent (now pool) (now payload) × (sound (placesIn (now places)) ≡ true) × (i ≡ placeOf source (placesIn (now places))) ⌝ }
-    ensures { λ o. ⌜ Joins (joinSound role source (now (payload .entry)) (stateIn (now (places .entry)) (now (pool .entry)))) (now (payload .entry)) o (now (places .entry)) (now (places .exit)) (now (pool .exit)) ⌝ }
+    ensures { λ o. ⌜ Joins (joinSound role source (now (payload .entry)) tick (stateIn (now (places .entry)) (now (pool .entry)))) (now (payload .entry)) o (now (places .entry)) (now (places .exit)) (now (pool .exit)) ⌝ }
 {
     let len = places::len_at(places, i);
     match step::step_of(role, payload.len() as u8, i < 8, len) {
@@ -91,10 +93,10 @@ pub fn join_sound(
             return Outcome::InFrame;
         }
         Step::Open => {
-            return open(pool, places, source, payload);
+            return open(pool, places, source, payload, tick);
         }
         Step::Append => {
-            return append(pool, places, i, source, len, payload);
+            return append(pool, places, i, source, len, payload, tick);
         }
         Step::Close => {
             return close(pool, places, i, len, payload);

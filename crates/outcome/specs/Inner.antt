@@ -25,11 +25,11 @@ pub record Fitting (i n : ℕ) (last : Bool) (bytes d : List ℕ) : Type 0 where
   pub total : n + length d ≤ 72
   pub some : last ≡ false → 0 < length d
 
--- What a step does for a frame from s with the data d, where the unfinished datagram of s, if it has one, is in place i.
-abbrev pub performed : Step → Bool → ℕ → ℕ → List ℕ → State → Joined
-performed Ignore unfinished s i d st = joined st ignored
-performed Deliver unfinished s i d st = joined st (finish d)
-performed Open unfinished s i d st = joinRule First s d st blank
-performed Append unfinished s i d st = joined (appended s d i st) noAnswer
-performed Close unfinished s i d st = joined (closed d i st) (finish (bytesAt i st ++ d))
-performed (Refuse code) unfinished s i d st = joined (cond unfinished (dropped i st) st) (refuse code)
+-- What a step does for a frame from s with the data d at the tick `now`, where the unfinished datagram of s, if it has one, is in place i.
+abbrev pub performed : Step → Bool → ℕ → ℕ → List ℕ → ℕ → State → Joined
+performed Ignore unfinished s i d now st = joined st ignored
+performed Deliver unfinished s i d now st = joined st (finish d)
+performed Open unfinished s i d now st = joinRule First s d now st blank
+performed Append unfinished s i d now st = joined (appended s d now i st) noAnswer
+performed Close unfinished s i d now st = joined (closed d i st) (finish (bytesAt i st ++ d))
+performed (Refuse code) unfinished s i d now st = joined (cond unfinished (dropped i st) st) (refuse code)

@@ -1,7 +1,7 @@
 -- Laws of a place that is read byte by byte: a place that is not there reads as free.
 -- Assumes nothing.
-use mathlib.Core.Path.{_≡_, refl, ap, _∙_}
-use mathlib.Core.Bool.{Bool, true, false, cond, not}
+use mathlib.Core.Path.{_≡_, ap}
+use mathlib.Core.Bool.{cond, not}
 use mathlib.Core.List.{List}
 use Prim.Native.Nat.{ℕ, _+_, _*_}
 use native.Mathlib.Nat.{add-zero}
@@ -11,7 +11,7 @@ use borrow.Author.Tests.{ltb-true, ltb-false}
 use Rattle.buffer.proofs.Choice.{by-test}
 use Rattle.reception.specs.Place.{Place, freePlace}
 use Rattle.reception.specs.PlaceBytes.{placesIn}
-use Rattle.reception.proofs.ByteLaws.{at-none, held-at, len-at, source-at}
+use Rattle.reception.proofs.ByteLaws.{at-none, held-at, len-at, source-at, tick-at}
 
 module _ (xs : List ℕ) (i : ℕ) where
   -- byte k of place i
@@ -35,3 +35,9 @@ module _ (xs : List ℕ) (i : ℕ) where
       by-test (ltb i 8)
       (λ q. rw q (source-at xs i (ltb-true i 8 q)))
       (λ q. rw q (ap (λ (p : Place). p .source) (at-none xs i (ltb-false i 8 q))))
+
+  pub tick-is : getD (placesIn xs) i freePlace .tick ≡ byteOf 4 + byteOf 5 * 256
+  tick-is =
+      by-test (ltb i 8)
+      (λ q. rw q (tick-at xs i (ltb-true i 8 q)))
+      (λ q. rw q (ap (λ (p : Place). p .tick) (at-none xs i (ltb-false i 8 q))))

@@ -49,6 +49,13 @@ pub fn source_at(places: &[u8; 64], i: usize) -> u16
     number_of(byte_of(places, i, 2), byte_of(places, i, 3))
 }
 
+// The driver's tick at the last accepted frame of its source.
+pub fn tick_at(places: &[u8; 64], i: usize) -> u16
+    ensures { λ r. ⌜ r ≡ getD (placesIn (now (places .entry))) i freePlace .tick ⌝ }
+{
+    number_of(byte_of(places, i, 4), byte_of(places, i, 5))
+}
+
 // Whether place i holds a datagram of the source.
 pub fn is_for(places: &[u8; 64], i: usize, source: u16) -> bool
     ensures { λ r. ⌜ r ≡ isFor source (getD (placesIn (now (places .entry))) i freePlace) ⌝ }

@@ -2,15 +2,16 @@
 -- Assumes nothing.
 use mathlib.Core.Path.{_≡_, refl, sym, ap, _∙_}
 use mathlib.Core.Bool.{Bool, true, false, cond, not, _&&_}
-use mathlib.Core.List.{List, [], _∷_, _++_}
+use mathlib.Core.List.{List, [], _∷_, _++_, append-nil}
 use Prim.Native.Nat.{ℕ, zero, suc, _+_, _*_, _/_, _%_, _≤_, _<_}
 use native.Mathlib.Nat.{add-zero, le-of-suc-le-suc, not-suc-le-zero}
 use native.Mathlib.Omega.{arith}
-use lib.Dec.{eqb}
-use lib.ListN.{length, take, drop, getD, set, length-drop, take-append-drop, List·getD-eq-default}
-use lib.Seq.{drop-drop, getD-drop}
-use borrow.Author.Tests.{eq-eqb, ne-eqb}
+use lib.Dec.{eqb, ltb}
+use lib.ListN.{length, take, drop, getD, set, length-drop, take-append-drop, drop-of-length-le, List·getD-eq-default}
+use lib.Seq.{drop-drop, getD-drop, length-take-le, take-all, take-at, drop-at}
+use borrow.Author.Tests.{eqb-true, eq-eqb, ne-eqb, ltb-true, ltb-false}
 use Rattle.buffer.specs.Buffer.{putAt, placed}
+use Rattle.buffer.proofs.Choice.{clash, by-test, and-left, and-right}
 use Rattle.buffer.proofs.Laws.{placed-fits, put-first, take-before, drop-put}
 use Rattle.reception.specs.Place.{Place, place, freePlace}
 use Rattle.reception.specs.PlaceBytes.{placeIn, placesFrom, placesIn, placeBytes, samePlace, renewed}
@@ -53,6 +54,9 @@ module _ (xs : List ℕ) (i : ℕ) where
     pub source-at : getD (placesIn xs) i freePlace .source ≡ getD xs (8 * i + 2) 0 + getD xs (8 * i + 3) 0 * 256
     source-at = rw (at, byte 2, byte 3)
 
+    pub tick-at : getD (placesIn xs) i freePlace .tick ≡ getD xs (8 * i + 4) 0 + getD xs (8 * i + 5) 0 * 256
+    tick-at = rw (at, byte 4, byte 5)
+
 -- ---- one place
 
 held-byte : (b : Bool) → not (eqb (cond b 1 0) 0) ≡ b
@@ -64,23 +68,44 @@ two-bytes n = omega arith
 
 bytes-place : (p : Place) (xs : List ℕ) → placeIn (placeBytes p ++ xs) ≡ p
 bytes-place p xs =
-    ap (λ (h : Bool). place h (p .len) (p .source % 256 + p .source / 256 * 256)) (held-byte (p .held))
-    ∙ ap (place (p .held) (p .len)) (two-bytes (p .source))
+    ap (λ (h : Bool). place h (p .len) (p .source % 256 + p .source / 256 * 256) (p .tick % 256 + p .tick / 256 * 256)) (held-byte (p .held))
+    ∙ ap (λ (s : ℕ). place (p .held) (p .len) s (p .tick % 256 + p .tick / 256 * 256)) (two-bytes (p .source))
+    ∙ ap (place (p .held) (p .len) (p .source)) (two-bytes (p .tick))
 
 place-front : (xs : List ℕ) → placeIn (take 8 xs) ≡ placeIn xs
 place-front [] = refl
 place-front (a ∷ []) = refl
 place-front (a ∷ b ∷ []) = refl
 place-front (a ∷ b ∷ c ∷ []) = refl
-place-front (a ∷ b ∷ c ∷ d ∷ xs) = refl
+place-front (a ∷ b ∷ c ∷ d ∷ []) = refl
+place-front (a ∷ b ∷ c ∷ d ∷ e ∷ []) = refl
+place-front (a ∷ b ∷ c ∷ d ∷ e ∷ f ∷ xs) = refl
 
-same-refl : (p : Place) → samePlace p p ≡ true
+pub same-refl : (p : Place) → samePlace p p ≡ true
 unfolding samePlace
-same-refl p = rw (eq-eqb (p .len) (p .len) refl, eq-eqb (p .source) (p .source) refl) (go (p .held))
+same-refl p = rw (eq-eqb (p .len) (p .len) refl, eq-eqb (p .source) (p .source) refl, eq-eqb (p .tick) (p .tick) refl) (go (p .held))
   where
     go : (b : Bool) → cond b b (not b) && true ≡ true
     go true = refl
     go false = refl
+
+same-held : (a b : Bool) → cond a b (not b) ≡ true → a ≡ b
+same-held true true e = refl
+same-held true false e = clash (sym e)
+same-held false true e = clash (sym e)
+same-held false false e = refl
+
+pub same-eq : (p q : Place) → samePlace p q ≡ true → p ≡ q
+unfolding samePlace
+same-eq p q e =
+    let h = same-held (p .held) (q .held) (and-left (cond (p .held) (q .held) (not (q .held))) _ e) in
+    let r = and-right (cond (p .held) (q .held) (not (q .held))) _ e in
+    let l = eqb-true (p .len) (q .len) (and-left (eqb (p .len) (q .len)) _ r) in
+    let u = and-right (eqb (p .len) (q .len)) _ r in
+    let s = eqb-true (p .source) (q .source) (and-left (eqb (p .source) (q .source)) _ u) in
+    let t = eqb-true (p .tick) (q .tick) (and-right (eqb (p .source) (q .source)) _ u) in
+    ap (λ (b : Bool). place b (p .len) (p .source) (p .tick)) h ∙ ap (λ (n : ℕ). place (q .held) n (p .source) (p .tick)) l
+    ∙ ap (λ (n : ℕ). place (q .held) (q .len) n (p .tick)) s ∙ ap (place (q .held) (q .len) (q .source)) t
 
 -- ---- place i becomes p
 
@@ -152,12 +177,85 @@ module _ {i : ℕ} {p : Place} {xs after : List ℕ} (c : Changed i p xs after) 
   unfolding placesIn
   changed-bytes d = put ∙ sym (from-renewed p 8 i xs (c .inside) (omega arith) d)
 
+-- ---- places changed twice
+
+-- a place that has changed from what it is in xs to that of qs is not that of ps again
+abbrev pub NotBack : List ℕ → List Place → List Place → Type 0
+NotBack xs [] [] = Unit {0}
+NotBack xs [] (p ∷ ps) = ⊥
+NotBack xs (q ∷ qs) [] = ⊥
+NotBack xs (q ∷ qs) (p ∷ ps) = (samePlace (placeIn xs) q ≡ false → samePlace (placeIn xs) p ≡ false) × NotBack (drop 8 xs) qs ps
+
+module _ (front rest : List ℕ) (l : length front ≡ 8) where
+  -- the bytes of the first place are those of xs
+  front-place : (xs : List ℕ) → front ≡ take 8 xs → placeIn (front ++ rest) ≡ placeIn xs
+  front-place xs e = sym (place-front (front ++ rest)) ∙ ap placeIn (take-at front rest 8 l ∙ e) ∙ place-front xs
+
+  front-renewed : (p : Place) (ps : List Place) → renewed (p ∷ ps) (front ++ rest) ≡ cond (samePlace (placeIn (front ++ rest)) p) front (placeBytes p) ++ renewed ps rest
+  front-renewed p ps =
+      ap (λ (ys : List ℕ). cond (samePlace (placeIn (front ++ rest)) p) ys (placeBytes p) ++ renewed ps (drop 8 (front ++ rest))) (take-at front rest 8 l)
+      ∙ ap (λ (ys : List ℕ). cond (samePlace (placeIn (front ++ rest)) p) front (placeBytes p) ++ renewed ps ys) (drop-at front rest 8 l)
+
+-- the bytes that a place gets are the same where it is the same
+same-bytes : (q p : Place) (b : Bool) → samePlace q p ≡ b → cond b (placeBytes q) (placeBytes p) ≡ placeBytes p
+same-bytes q p true e = ap placeBytes (same-eq q p e)
+same-bytes q p false e = refl
+
+-- where the bytes end within a place, no bytes come of the places behind it
+abbrev pub Covers : List ℕ → List Place → Type 0
+Covers xs [] = Unit {0}
+Covers xs (q ∷ qs) = (length xs < 8 → renewed qs (drop 8 xs) ≡ []) × Covers (drop 8 xs) qs
+
+-- what the bytes become in two steps they become in one
+pub renewed-twice : (xs : List ℕ) (qs ps : List Place) → Covers xs qs → NotBack xs qs ps → renewed ps (renewed qs xs) ≡ renewed ps xs
+renewed-twice xs [] [] c n = refl
+renewed-twice xs [] (p ∷ ps) c n = absurd n
+renewed-twice xs (q ∷ qs) [] c n = absurd n
+renewed-twice xs (q ∷ qs) (p ∷ ps) c n = go (samePlace (placeIn xs) q) refl (renewed-twice (drop 8 xs) qs ps (c .1) (n .1))
+  where
+    kept : renewed ps (renewed qs (drop 8 xs)) ≡ renewed ps (drop 8 xs) → renewed (p ∷ ps) (take 8 xs ++ renewed qs (drop 8 xs)) ≡ renewed (p ∷ ps) xs
+    kept ih =
+        by-test (ltb (length xs) 8)
+        (λ e. let h : length xs < 8 = ltb-true (length xs) 8 e in
+        ap (λ (ys : List ℕ). renewed (p ∷ ps) (take 8 xs ++ ys)) (c .0 h) ∙ ap (renewed (p ∷ ps)) (append-nil (take 8 xs) ∙ take-all 8 xs (omega arith)))
+        (λ e. let k : length (take 8 xs) ≡ 8 = length-take-le 8 xs (ltb-false (length xs) 8 e) in
+        rw (front-renewed (take 8 xs) (renewed qs (drop 8 xs)) k p ps, front-place (take 8 xs) (renewed qs (drop 8 xs)) k xs refl, ih))
+
+    go : (b : Bool) → samePlace (placeIn xs) q ≡ b → renewed ps (renewed qs (drop 8 xs)) ≡ renewed ps (drop 8 xs) →
+        renewed (p ∷ ps) (renewed (q ∷ qs) xs) ≡ renewed (p ∷ ps) xs
+    go true e ih = rw e (kept ih)
+    go false e ih =
+        rw (e, n .0 e, ih, bytes-place q (renewed qs (drop 8 xs))) (ap (λ (ys : List ℕ). ys ++ renewed ps (drop 8 xs)) (same-bytes q p (samePlace q p) refl))
+
+-- places that change nothing where there are no bytes
+pub covers-where : (f : List Place → List Place) → ((n : ℕ) → f (placesFrom n []) ≡ placesFrom n []) → (n : ℕ) (xs : List ℕ) → length xs < 8 →
+    renewed (f (placesFrom n (drop 8 xs))) (drop 8 xs) ≡ []
+covers-where f e n xs h =
+    let l : length xs ≤ 8 = omega arith in
+    let d : drop 8 xs ≡ [] = drop-of-length-le xs l in
+    rw d (ap (λ (ps : List Place). renewed ps []) (e n) ∙ from-kept n [])
+
 -- ---- a place that is changed
 
 pub differ-held : (p q : Place) (b : Bool) → p .held ≡ b → q .held ≡ not b → samePlace p q ≡ false
 unfolding samePlace
 differ-held p q true e f = rw (e, f)
 differ-held p q false e f = rw (e, f)
+
+pub differ-tick : (p q : Place) → (p .tick ≡ q .tick → ⊥) → samePlace p q ≡ false
+unfolding samePlace
+differ-tick p q n =
+    rw (ne-eqb (p .tick) (q .tick) n) (go (eqb (p .source) (q .source)) (eqb (p .len) (q .len)) (cond (p .held) (q .held) (not (q .held))))
+  where
+    go : (a b c : Bool) → c && (b && (a && false)) ≡ false
+    go true true true = refl
+    go true true false = refl
+    go true false true = refl
+    go true false false = refl
+    go false true true = refl
+    go false true false = refl
+    go false false true = refl
+    go false false false = refl
 
 pub differ-len : (p q : Place) → (p .len ≡ q .len → ⊥) → samePlace p q ≡ false
 unfolding samePlace

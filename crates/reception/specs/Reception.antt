@@ -1,5 +1,5 @@
--- Document 01, "Joining frames", 0x2040, 0x2000 and 0x2020 of "Refused because of the state", and B7: the reception state, and a frame
--- joined to it.
+-- Document 01, "Joining frames", 0x2040, 0x2000 and 0x2020 of "Refused because of the state", and B7, with C-14 of document 02: the
+-- reception state, what a tick drops, and a frame joined to it.
 use Prim.Native.Nat.{ℕ, suc, _+_, _*_}
 use mathlib.Core.Bool.{Bool, true, false, cond, not, _&&_, _||_}
 use mathlib.Core.List.{List, [], _∷_, _++_}
@@ -10,6 +10,7 @@ use Rattle.frame.specs.declared.Role.{Role}
 use Rattle.frame.specs.declared.Role.the-variants.{Ignored, Single, First, Middle, Last}
 use Rattle.frame.specs.Frame.{CanFrame, sourceOf, roleOf}
 use Rattle.reception.specs.Place.{Place, heldFor, freePlace}
+use Rattle.reception.specs.Ticks.{dropDue}
 use Rattle.reception.specs.Books.{Book, blank, holds, Event, ignored, noAnswer, refuse, finish, badState, outOfOrder, temporaryError, bufferUnavailable, fits}
 
 -- ---- the state
@@ -62,10 +63,17 @@ full (p ∷ ps) = p .held && full ps
 abbrev pub soundBeside : List Place → Place → Bool
 soundBeside ps p = leb (p .len) 72 && (leb (p .source) 4095 && not (hasPlace (p .source) ps))
 
--- Each place beside those behind it. A free place holds no datagram, so nothing is asked of its length and source.
+-- Each place beside those behind it. A free place holds no datagram, so nothing is asked of its length and source; of ticks nothing is asked.
 abbrev pub sound : List Place → Bool
 sound [] = true
 sound (p ∷ ps) = (not (p .held) || soundBeside ps p) && sound ps
+
+-- ---- a tick
+
+-- The state with what is due at the tick `now` dropped: "Before any frame, even an ignored one, is looked at, and at a lone tick". What the
+-- pool holds of it stays, and means nothing.
+abbrev pub atTick : ℕ → State → State
+atTick now st = state (dropDue now (st .places)) (st .pool)
 
 -- ---- a frame joined
 
@@ -84,13 +92,13 @@ bytesAt i st = take (sizeAt i (st .places)) (drop (72 * i) (st .pool))
 abbrev pub dropped : ℕ → State → State
 dropped i st = state (set (st .places) i freePlace) (st .pool)
 
--- "First: opens one."
-abbrev pub opened : ℕ → List ℕ → State → State
-opened s d st = stored (freeIn (st .places)) (heldFor s (length d)) 0 d st
+-- "First: opens one.", at the tick `now`
+abbrev pub opened : ℕ → List ℕ → ℕ → State → State
+opened s d now st = stored (freeIn (st .places)) (heldFor s (length d) now) 0 d st
 
--- "Middle: appends."
-abbrev pub appended : ℕ → List ℕ → ℕ → State → State
-appended s d i st = stored i (heldFor s (sizeAt i (st .places) + length d)) (sizeAt i (st .places)) d st
+-- "Middle: appends.": it is the last accepted frame from now on
+abbrev pub appended : ℕ → List ℕ → ℕ → ℕ → State → State
+appended s d now i st = stored i (heldFor s (sizeAt i (st .places) + length d) now) (sizeAt i (st .places)) d st
 
 -- "Last: appends, closes"
 abbrev pub closed : List ℕ → ℕ → State → State
@@ -109,8 +117,8 @@ abbrev pub whereFits : ℕ → List ℕ → List ℕ → State → Joined → Jo
 whereFits i b d st j = cond (fits b d) j (joined (dropped i st) (refuse temporaryError))
 
 -- A Middle and a Last for the datagram b in place i.
-abbrev pub middleAt : ℕ → ℕ → List ℕ → List ℕ → State → Joined
-middleAt s i b d st = whereFits i b d st (joined (appended s d i st) noAnswer)
+abbrev pub middleAt : ℕ → ℕ → ℕ → List ℕ → List ℕ → State → Joined
+middleAt s now i b d st = whereFits i b d st (joined (appended s d now i st) noAnswer)
 
 abbrev pub lastAt : ℕ → List ℕ → List ℕ → State → Joined
 lastAt i b d st = whereFits i b d st (joined (closed d i st) (finish (b ++ d)))
@@ -121,30 +129,32 @@ lastAt i b d st = whereFits i b d st (joined (closed d i st) (finish (b ++ d)))
 -- unfinished datagram, if any, is dropped."
 -- "First from a source with none unfinished while eight others have one: 0x2020, nothing opened."
 -- "An empty Middle is tested before the total."
-abbrev pub joinRule : Role → ℕ → List ℕ → State → Book → Joined
-joinRule Ignored s d st b = joined st ignored
-joinRule Single s d st blank = joined st (finish d)
-joinRule Single s d st (holds b) = joined (dropped (placeOf s (st .places)) st) (refuse outOfOrder)
-joinRule First s d st blank = cond (full (st .places)) (joined st (refuse bufferUnavailable)) (joined (opened s d st) noAnswer)
-joinRule First s d st (holds b) = joined (dropped (placeOf s (st .places)) st) (refuse outOfOrder)
-joinRule Middle s d st blank = joined st (refuse outOfOrder)
-joinRule Middle s d st (holds b) =
-    cond (eqb (length d) 0) (joined (dropped (placeOf s (st .places)) st) (refuse outOfOrder)) (middleAt s (placeOf s (st .places)) b d st)
-joinRule Last s d st blank = joined st (refuse outOfOrder)
-joinRule Last s d st (holds b) = lastAt (placeOf s (st .places)) b d st
+abbrev pub joinRule : Role → ℕ → List ℕ → ℕ → State → Book → Joined
+joinRule Ignored s d now st b = joined st ignored
+joinRule Single s d now st blank = joined st (finish d)
+joinRule Single s d now st (holds b) = joined (dropped (placeOf s (st .places)) st) (refuse outOfOrder)
+joinRule First s d now st blank = cond (full (st .places)) (joined st (refuse bufferUnavailable)) (joined (opened s d now st) noAnswer)
+joinRule First s d now st (holds b) = joined (dropped (placeOf s (st .places)) st) (refuse outOfOrder)
+joinRule Middle s d now st blank = joined st (refuse outOfOrder)
+joinRule Middle s d now st (holds b) =
+    cond (eqb (length d) 0) (joined (dropped (placeOf s (st .places)) st) (refuse outOfOrder)) (middleAt s now (placeOf s (st .places)) b d st)
+joinRule Last s d now st blank = joined st (refuse outOfOrder)
+joinRule Last s d now st (holds b) = lastAt (placeOf s (st .places)) b d st
 
--- A frame of a known role joined to a state that B7 lets pass.
-unfoldable pub joinSound : Role → ℕ → List ℕ → State → Joined
-joinSound role s d st = joinRule role s d st (unfinishedFor st s)
+-- A frame of a known role joined, at the tick `now`, to a state that B7 lets pass and in which nothing is due.
+unfoldable pub joinSound : Role → ℕ → List ℕ → ℕ → State → Joined
+joinSound role s d now st = joinRule role s d now st (unfinishedFor st s)
 
--- A frame received. B7 comes first, "checked first at each call": "The state comes back as it was."
-unfoldable pub receive : ℕ → State → CanFrame → Joined
-receive alias st f =
+-- A frame received at the tick `now`. B7 comes first, "checked first at each call": "The state comes back as it was." Then what is due is
+-- dropped, and then the frame is looked at.
+unfoldable pub receive : ℕ → ℕ → State → CanFrame → Joined
+receive alias now st f =
     cond (sound (st .places))
-    (joinSound (roleOf alias (f .header) (length (f .payload))) (sourceOf (f .header)) (f .payload) st)
+    (joinSound (roleOf alias (f .header) (length (f .payload))) (sourceOf (f .header)) (f .payload) now (atTick now st))
     (joined st badState)
 
--- Frames joined one after the other, each to the state that the one before left: what each brings about.
-abbrev pub receiveAll : ℕ → State → List CanFrame → List Event
-receiveAll alias st [] = []
-receiveAll alias st (f ∷ fs) = let j = receive alias st f in j .event ∷ receiveAll alias (j .state) fs
+-- Frames joined one after the other, each at its tick and to the state that the one before left: what each brings about.
+abbrev pub receiveAll : ℕ → State → List ℕ → List CanFrame → List Event
+receiveAll alias st [] fs = []
+receiveAll alias st (now ∷ ticks) [] = []
+receiveAll alias st (now ∷ ticks) (f ∷ fs) = let j = receive alias now st f in j .event ∷ receiveAll alias (j .state) ticks fs

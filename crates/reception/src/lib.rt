@@ -1,5 +1,5 @@
 // The reception state: eight places, of eight lent bytes each; the bytes of the unfinished datagrams lie in a lent pool, 72 for each place.
-// Its rules and the order statement are in specs/, and hold of the definitions alone.
+// Its rules, the order statement and what is proved of datagrams that grow old are in specs/, and hold of the definitions alone.
 ghost use mathlib.Core.Path.{_≡_};
 ghost use mathlib.Core.List.{List};
 ghost use Prim.Native.Nat.{ℕ};
@@ -7,6 +7,7 @@ ghost use Rattle.reception.specs.Books.{blank};
 ghost use Rattle.reception.specs.Reception.{emptyPlaces, unfinishedFor};
 ghost use Rattle.reception.specs.PlaceBytes.{placesIn, stateIn, startBytes};
 ghost use Rattle.reception.specs.Order.{JoinOrder};
+ghost use Rattle.reception.specs.Aging.{JoinAging};
 
 // The places at the start: nobody has an unfinished datagram, whatever the pool holds. From there frames are joined in their order.
 pub fn new_places() -> [u8; 64]
@@ -14,6 +15,7 @@ pub fn new_places() -> [u8; 64]
     ensures places { λ r. ⌜ placesIn r ≡ emptyPlaces ⌝ }
     ensures empty { λ r. ⌜ ((pool : List ℕ) (s : ℕ) → unfinishedFor (stateIn r pool) s ≡ blank) ⌝ }
     ensures order { λ _. ⌜ JoinOrder ⌝ }
+    ensures aging { λ _. ⌜ JoinAging ⌝ }
 {
     [0u8; 64]
 }

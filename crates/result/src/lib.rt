@@ -8,6 +8,7 @@ use words::CallResult;
 use words::Words;
 ghost use mathlib.Core.Path.{_≡_};
 ghost use Rattle.words.specs.Words.{fieldsOf, inBytes};
+ghost use Rattle.call.specs.TickCall.{tickAnswer};
 ghost use Rattle.result.specs.Result.{positionNumber, houseResult, answerResult, handledResult, frameResult};
 
 // The number that stands for a position.
@@ -93,4 +94,14 @@ pub fn of_frame(answer: FrameAnswer, frame_count: usize) -> CallResult
     ensures { λ r. ⌜ r ≡ inBytes (frameResult answer «frame_count») ⌝ }
 {
     words::in_fields(words_of_frame(answer, frame_count))
+}
+
+// What comes of a lone tick, by whether B7 lets the state pass.
+pub fn of_tick(passed: bool) -> CallResult
+    ensures { λ r. ⌜ r ≡ inBytes (frameResult (tickAnswer passed) 0) ⌝ }
+{
+    if passed {
+        return words::in_fields(words::of_kind(2, 0, 0, 0));
+    }
+    words::in_fields(words::of_refusal(7, words::NO_POSITION, 0))
 }

@@ -1,8 +1,7 @@
 -- Laws of the frames to send: how many there are, a reply in front of its buffer, and demand 3 of frames in and frames out.
 -- Assumes nothing.
 use Prim.Native.Nat.{ℕ, _+_, _≤_}
-use mathlib.Core.Path.{_≡_, refl, sym, ap, _∙_}
-use mathlib.Core.Bool.{cond}
+use mathlib.Core.Path.{_≡_, refl, ap, _∙_}
 use mathlib.Core.List.{List, [], _∷_, _++_, map, append-nil}
 use native.Mathlib.Omega.{arith}
 use lib.Dec.{leb}
@@ -13,22 +12,22 @@ use Rattle.buffer.specs.Buffer.{over}
 use Rattle.buffer.proofs.Choice.{cond-elim, and-left}
 use Rattle.house.specs.declared.HouseNumber.{HouseNumber}
 use Rattle.frame.specs.declared.Frame.{Frame}
-use Rattle.frame.specs.Frame.{sourceOf}
 use Rattle.layout.specs.Layout.{framesBytes}
 use Rattle.reception.specs.Reception.{State}
 use Rattle.reception.specs.Order as order
 use Rattle.reception.specs.Order.{houseRefusal, ignoredFrame, nothing, transportRefusal, handled, runCalls}
-use Rattle.fragments.specs.Cutting.{aliases, framesOf, cutFrames}
+use Rattle.fragments.specs.Cutting.{aliases, cutFrames}
 use Rattle.transport.specs.Transport.{receivedOk, rejectedWith, transportReply}
 use Rattle.fragments.proofs.CutLaws.{frames-few}
 use Rattle.answer.specs.Answers.{Result, datagramRejected, written, updateCompleted, receivedOkReply}
 use Rattle.answer.specs.declared.Answer.{Answer}
 use Rattle.answer.specs.declared.Answer.the-variants.{Rejected, Written, UpdateComplete, Replied}
 use Rattle.handling.specs.Handling.{Fixed, Contents}
-use Rattle.call.specs.FrameCall.{frameCall, Call, frameAnswerOf, frameBufferOf}
+use Rattle.call.specs.FrameCall.{frameAnswerOf, frameBufferOf}
+use Rattle.call.specs.NodeOrder.{Call, heardOf, makeCall}
 use Rattle.call.specs.declared.FrameAnswer.{FrameAnswer}
 use Rattle.call.proofs.CallLaws.{node-order}
-use Rattle.sending.specs.Sending.{answerFrames, framesToSend, sentFor, sentInCalls, sentTo, Made, BusOrder}
+use Rattle.sending.specs.Sending.{answerFrames, framesToSend, sentFor, sentOf, sentInCalls, sentTo, Made, BusOrder}
 
 -- ---- how many
 
@@ -117,13 +116,11 @@ module _ (board tool : ℕ) (buffer : List ℕ) where
 -- ---- demand 3
 
 module _ (x : Fixed) where
-  sent-calls : (st : State) (c : Contents) (ks : List Call) →
-      sentInCalls x st c ks
-      ≡ sentTo (x .alias) (map (λ (k : Call). k .frame) ks) (runCalls (λ st c k. frameCall x (k .buffer) st c (k .frame)) st c ks .answers)
+  sent-calls : (st : State) (c : Contents) (ks : List Call) → sentInCalls x st c ks ≡ sentTo (x .alias) (map heardOf ks) (runCalls (makeCall x) st c ks .answers)
   sent-calls st c [] = refl
-  sent-calls st c (k ∷ ks) = let r = frameCall x (k .buffer) st c (k .frame) in
-      ap (λ (rest : List (List Frame)). sentFor (x .alias) (sourceOf (k .frame .header)) (r .answer) ∷ rest) (sent-calls (r .state) (r .world) ks)
+  sent-calls st c (k ∷ ks) = let r = makeCall x st c k in
+      ap (λ (rest : List (List Frame)). sentOf (x .alias) (heardOf k .input) (r .answer) ∷ rest) (sent-calls (r .state) (r .world) ks)
 
   pub bus-order : BusOrder x
-  bus-order m g st c ks fresh size fine few =
-      sent-calls st c ks ∙ ap (sentTo (x .alias) (map (λ (k : Call). k .frame) ks)) (node-order x m g st c ks fresh size fine few .answers)
+  bus-order m g st c ks fresh size fine timely few =
+      sent-calls st c ks ∙ ap (sentTo (x .alias) (map heardOf ks)) (node-order x m g st c ks fresh size fine timely few .answers)

@@ -9,18 +9,20 @@ use Rattle.house.specs.HouseNumbers.{descriptionHouse}
 use Rattle.house.specs.declared.HouseNumber.{HouseNumber}
 use Rattle.house.specs.declared.HouseNumber.the-variants.{Good, B7}
 use Rattle.frame.specs.declared.Frame.{Frame}
-use Rattle.frame.specs.Frame.{CanFrame, sourceOf}
+use Rattle.frame.specs.Frame.{sourceOf}
 use Rattle.layout.specs.Layout.{framesBytes}
 use Rattle.reception.specs.Reception.{State}
+use Rattle.reception.specs.Times.{Input, frameInput, loneTick, Timed, Timely, eventsOf}
 use Rattle.reception.specs.Order as order
-use Rattle.reception.specs.Order.{FrameResult, houseRefusal, ignoredFrame, nothing, transportRefusal, handled, eventsOf, answersTo, Fresh, AtMostEight, Each}
+use Rattle.reception.specs.Order.{houseRefusal, ignoredFrame, nothing, transportRefusal, handled, answersTo, Fresh, AtMostEight, Each, timesOf}
 use Rattle.fragments.specs.Cutting.{cutFrames}
 use Rattle.transport.specs.Transport.{receivedOk, rejectedWith}
 use Rattle.answer.specs.Answers.{Result, datagramRejected, written, updateCompleted, receivedOkReply, Transport, okFlags, rejectedCode, transportOf}
 use Rattle.answer.specs.declared.Answer.{Answer}
 use Rattle.answer.specs.declared.Answer.the-variants.{Rejected, Written, UpdateComplete, Replied}
 use Rattle.handling.specs.Handling.{Fixed, Contents}
-use Rattle.call.specs.FrameCall.{handler, frameCall, Call, frameAnswerOf}
+use Rattle.call.specs.FrameCall.{handler, frameAnswerOf}
+use Rattle.call.specs.NodeOrder.{Call, heardOf, BufferFits, makeCall}
 use Rattle.call.specs.declared.FrameAnswer.{FrameAnswer}
 use Rattle.call.specs.declared.FrameAnswer.the-variants.{Refused, Ignored, Nothing, TransportRefusal, Answered}
 
@@ -75,25 +77,28 @@ replyOf (handled (receivedOkReply reply)) = reply
 abbrev pub sentFor : ℕ → ℕ → order.Answer HouseNumber Result → List Frame
 sentFor board tool a = framesToSend board tool (frameAnswerOf a) (replyOf a)
 
+-- The frames that a call sends, by what it brings and its answer: to the frame's source, and none for a lone tick.
+abbrev pub sentOf : ℕ → Input → order.Answer HouseNumber Result → List Frame
+sentOf board (frameInput f) a = sentFor board (sourceOf (f .header)) a
+sentOf board loneTick a = []
+
 -- For each call the frames that the board sends, each call made on what the call before left.
 abbrev pub sentInCalls : Fixed → State → Contents → List Call → List (List Frame)
 sentInCalls x st c [] = []
 sentInCalls x st c (k ∷ ks) =
-    let r = frameCall x (k .buffer) st c (k .frame) in
-    sentFor (x .alias) (sourceOf (k .frame .header)) (r .answer) ∷ sentInCalls x (r .state) (r .world) ks
+    let r = makeCall x st c k in sentOf (x .alias) (heardOf k .input) (r .answer) ∷ sentInCalls x (r .state) (r .world) ks
 
--- For each frame the frames of its answer, to the frame's source.
-abbrev pub sentTo : ℕ → List CanFrame → List (order.Answer HouseNumber Result) → List (List Frame)
+-- For what each call brings the frames of its answer.
+abbrev pub sentTo : ℕ → List Timed → List (order.Answer HouseNumber Result) → List (List Frame)
 sentTo board [] answers = []
-sentTo board (f ∷ fs) [] = []
-sentTo board (f ∷ fs) (a ∷ answers) = sentFor board (sourceOf (f .header)) a ∷ sentTo board fs answers
+sentTo board (c ∷ cs) [] = []
+sentTo board (c ∷ cs) (a ∷ answers) = sentOf board (c .input) a ∷ sentTo board cs answers
 
 -- Demand 3 of frames in and frames out: in the cases of the order statement, the calls send, each to its frame's source, the frames of the
 -- answers that the books call for with each finished datagram "handled whole".
 abbrev pub BusOrder : Fixed → Type 0
 BusOrder x =
     (m : ℕ) → descriptionHouse (x .alias) (x .spaces) (length (x .flash)) m ≡ Good
-    → (st : State) (c : Contents) (ks : List Call) → Fresh st → length (c .memory) ≡ m → Each (λ (k : Call). 72 ≤ length (k .buffer)) ks
-    → AtMostEight (x .alias) (map (λ (k : Call). k .frame) ks)
-    → sentInCalls x st c ks
-    ≡ sentTo (x .alias) (map (λ (k : Call). k .frame) ks) (answersTo B7 (handler x) c (eventsOf (x .alias) (map (λ (k : Call). k .frame) ks)))
+    → (st : State) (c : Contents) (ks : List Call) → Fresh st → length (c .memory) ≡ m → Each BufferFits ks → Timely (timesOf heardOf ks)
+    → AtMostEight (x .alias) (map heardOf ks)
+    → sentInCalls x st c ks ≡ sentTo (x .alias) (map heardOf ks) (answersTo B7 (handler x) c (eventsOf (x .alias) (map heardOf ks)))

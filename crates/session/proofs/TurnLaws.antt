@@ -3,7 +3,7 @@
 use Prim.Native.Nat.{ℕ, _+_, _≤_, _<_, min}
 use mathlib.Core.Path.{_≡_, refl, sym}
 use mathlib.Core.Bool.{true, false}
-use mathlib.Core.List.{List, []}
+use mathlib.Core.List.{List}
 use native.Mathlib.Omega.{arith}
 use native.Mathlib.Nat.{add-zero}
 use lib.ListN.{length, take, replicate}
@@ -23,7 +23,7 @@ use Rattle.sending.specs.Sending.{sentFor, Made}
 use Rattle.gridconnect.specs.Line.{unknownText, Printed}
 use Rattle.parsing.specs.declared.Parsed.{Parsed}
 use Rattle.printing.specs.Printing.{framesFrom, framesText, whenRoom}
-use Rattle.session.specs.Turn.{turn, answerLine, answerWithRoom, Prints}
+use Rattle.session.specs.Turn.{sessionTick, turn, answerLine, answerWithRoom, Prints}
 use Rattle.session.proofs.FullLaws.{sent-full, printed-fits, frames-printed}
 
 -- no room: nothing is answered
@@ -40,7 +40,7 @@ module _ (x : Fixed) (st : State) (c : Contents) (p : Parsed) (at : ℕ) (out : 
 
   module _ {payload : List ℕ} (e : payload ≡ take (p .frame .len) (p .frame .bytes)) where
     abbrev call : FrameResult HouseNumber Contents Result
-    call = frameCall x (replicate 72 0) st c (canFrame (p .frame .header) payload)
+    call = frameCall x (replicate 72 0) sessionTick st c (canFrame (p .frame .header) payload)
 
     abbrev sent : List Frame
     sent = sentFor (x .alias) (sourceOf (p .frame .header)) (call .answer)

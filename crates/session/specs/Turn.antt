@@ -26,12 +26,16 @@ pub record Turn : Type 0 where
 abbrev pub turn : List ℕ → State → Contents → Turn
 turn text st c = record { text = text; state = st; contents = c }
 
+-- C-14 of document 02: "The demonstration program gives every frame tick 0."
+abbrev pub sessionTick : ℕ
+sessionTick = 0
+
 -- A line that was read: its frame is handled, with a reply buffer of 72 bytes, and the frames that the board sends are printed, each as a line;
 -- "Any other line prints `?`."
 unfoldable pub answerLine : Fixed → State → Contents → Parsed → Turn
 answerLine x st c p =
     cond (p .good)
-    (let r = frameCall x (replicate 72 0) st c (carried (p .frame)) in
+    (let r = frameCall x (replicate 72 0) sessionTick st c (carried (p .frame)) in
     turn (framesText (sentFor (x .alias) (sourceOf (p .frame .header)) (r .answer))) (r .state) (r .world))
     (turn unknownText st c)
 

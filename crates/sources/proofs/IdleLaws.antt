@@ -2,19 +2,20 @@
 -- Assumes nothing.
 use mathlib.Core.Path.{_≡_, refl, sym, ap, _∙_}
 use mathlib.Core.Logic.{⊎-elim}
-use mathlib.Core.Bool.{true, false}
+use mathlib.Core.Bool.{false}
 use mathlib.Core.List.{List}
-use Prim.Native.Nat.{ℕ, zero, suc, _+_, _*_, _≤_, _<_}
+use Prim.Native.Nat.{ℕ, zero, suc, _*_, _≤_, _<_}
 use native.Mathlib.Numerals.{add-one}
 use native.Mathlib.Omega.{arith}
 use lib.Bits.{bitOr, or-add-and, and-le-l, and-le-r}
 use lib.ListN.{length, take, getD}
+use lib.Seq.{take-all}
 use borrow.Author.Tests.{eq-eqb}
 use Rattle.reception.specs.Place.{Place, freePlace}
 use Rattle.reception.specs.PlaceBytes.{placesIn}
 use Rattle.reception.proofs.ByteLaws.{at-none, held-at}
-use Rattle.sources.specs.Search.{lookedUp}
-use Rattle.sources.proofs.SearchLaws.{Passed, next-free, turn, looked-done}
+use Rattle.sources.specs.Search.{anyDue, looked, lookedUp}
+use Rattle.sources.proofs.SearchLaws.{Passed, next-free, turn, due-none, looked-done}
 
 -- where two numbers have no bit, neither has one
 pub neither : (a b : ℕ) → bitOr a b ≡ 0 → (a ≡ 0) × (b ≡ 0)
@@ -49,5 +50,6 @@ module _ (s : ℕ) (ps : List Place) (l : length ps ≡ 8) (free : (i : ℕ) →
       let q = sym (next-free s (take i ps) (getD ps i freePlace) i 8 (free i)) in
       rw (sym (add-one i)) (⊎-elim (λ t. absurd (omega (arith, t .0))) (λ t. t) (turn s ps i l (omega arith) 8 8 p q))
 
-  pub none-found : 8 ≡ lookedUp s ps
-  none-found = looked-done s ps 8 8 l (omega arith) (passes-free 8 (omega arith))
+  pub none-found : (now : ℕ) → looked 8 false ≡ lookedUp s now ps
+  none-found now =
+      looked-done s now ps 8 8 false l (omega arith) (passes-free 8 (omega arith)) (sym (ap (anyDue now) (take-all 8 ps (omega arith)) ∙ due-none now ps free))

@@ -1,4 +1,4 @@
--- Laws of the loops over the places: the first free one, and the place of a source with the test for B7.
+-- Laws of the loops over the places: the first free one, and the place of a source with the test for B7 and what is due.
 -- Assumes nothing.
 use mathlib.Core.Path.{_≡_, refl, sym, ap, _∙_}
 use mathlib.Core.Logic.{_⊎_, inl, inr}
@@ -13,10 +13,11 @@ use lib.Seq.{drop-cons, take-suc, take-all}
 use borrow.Author.Tests.{eqb-true, eqb-false}
 use Rattle.buffer.proofs.Choice.{clash}
 use Rattle.reception.specs.Place.{Place, freePlace}
+use Rattle.reception.specs.Ticks.{isDue}
 use Rattle.reception.specs.Reception.{isFor, placeOf, freeIn, hasPlace, soundBeside, sound}
 use Rattle.reception.proofs.PlaceLaws.{isFor-held, isFor-source, isFor-self, isFor-free, isFor-else, none-head, none-tail, Fine, Good, beside-fine, fine-beside, good-sound, sound-good, place-out}
 use Rattle.soundness.proofs.BesideLaws.{or-false, has-snoc, has-next, none-at}
-use Rattle.sources.specs.Search.{nextFound, lookedUp}
+use Rattle.sources.specs.Search.{nextFound, anyDue, looked, lookedUp}
 
 -- ---- the first free place
 
@@ -154,18 +155,55 @@ module _ (s : ℕ) (ps : List Place) (i : ℕ) (l : length ps ≡ 8) (h : i < 8)
         go true u = tested u (soundBeside (take i ps) p) refl
         go false u = goes-on (q ∙ next-free s (take i ps) p i found u) (isFor-free s p u) (λ o. clash (sym o ∙ u))
 
+-- ---- B7 by itself
+
+module _ (ps : List Place) (i : ℕ) (l : length ps ≡ 8) (h : i < 8) where
+  pub sound-next : Good (take i ps) → (not (getD ps i freePlace .held) || soundBeside (take i ps) (getD ps i freePlace)) ≡ true → Good (take (i + 1) ps)
+  sound-next g e = good-next ps i (omega arith) g (λ u. beside-fine (take i ps) (getD ps i freePlace) (rw u at e))
+
+  pub sound-not : (not (getD ps i freePlace .held) || soundBeside (take i ps) (getD ps i freePlace)) ≡ false → sound ps ≡ false
+  sound-not e = go (getD ps i freePlace .held) refl
+    where
+      go : (b : Bool) → getD ps i freePlace .held ≡ b → sound ps ≡ false
+      go true u = not-sound 0 ps i l h u (rw u at e)
+      go false u = clash (rw u at e)
+
+pub sound-all : (ps : List Place) (i : ℕ) → length ps ≡ 8 → 8 ≤ i → Good (take i ps) → sound ps ≡ true
+sound-all ps i l h g = good-sound ps (rw (take-all i ps (omega arith)) at g)
+
+-- ---- what is due
+
+due-snoc : (now : ℕ) (xs : List Place) (p : Place) → anyDue now (xs ++ p ∷ []) ≡ anyDue now xs || isDue now p
+due-snoc now [] p = or-false (isDue now p)
+due-snoc now (q ∷ xs) p = go (isDue now q) (due-snoc now xs p)
+  where
+    go : (b : Bool) → anyDue now (xs ++ p ∷ []) ≡ anyDue now xs || isDue now p → b || anyDue now (xs ++ p ∷ []) ≡ (b || anyDue now xs) || isDue now p
+    go true e = refl
+    go false e = e
+
+pub due-next : (now : ℕ) (ps : List Place) (i : ℕ) → i < length ps → anyDue now (take (i + 1) ps) ≡ anyDue now (take i ps) || isDue now (getD ps i freePlace)
+due-next now ps i h = rw (add-one, take-suc ps i freePlace h) (due-snoc now (take i ps) (getD ps i freePlace))
+
+-- no place is held
+pub due-none : (now : ℕ) (ps : List Place) → ((i : ℕ) → getD ps i freePlace .held ≡ false) → anyDue now ps ≡ false
+unfolding isDue
+due-none now [] free = refl
+due-none now (p ∷ ps) free = rw (free 0, due-none now ps (λ i. free (suc i)))
+
 -- ---- the end of the search
 
-pub looked-bad : (s : ℕ) (ps : List Place) → sound ps ≡ false → 9 ≡ lookedUp s ps
+pub looked-bad : (s now : ℕ) (ps : List Place) → sound ps ≡ false → looked 9 false ≡ lookedUp s now ps
 unfolding lookedUp
-looked-bad s ps e = rw e
+looked-bad s now ps e = rw e
 
-pub looked-done : (s : ℕ) (ps : List Place) (i found : ℕ) → length ps ≡ 8 → 8 ≤ i → Passed s ps i found → found ≡ lookedUp s ps
+pub looked-done : (s now : ℕ) (ps : List Place) (i found : ℕ) (due : Bool) → length ps ≡ 8 → 8 ≤ i → Passed s ps i found → due ≡ anyDue now (take i ps) →
+    looked found due ≡ lookedUp s now ps
 unfolding lookedUp
-looked-done s ps i found l h inv =
+looked-done s now ps i found due l h inv d =
     let t = take-all i ps (omega arith) in
     let y : found ≡ cond (hasPlace s ps) (placeOf s ps) 8 = rw t at (inv .3) in
-    rw (good-sound ps (rw t at (inv .2))) (y ∙ go (hasPlace s ps) refl)
+    let z : due ≡ anyDue now ps = rw t at d in
+    rw (good-sound ps (rw t at (inv .2)), z) (ap (λ (n : ℕ). looked n (anyDue now ps)) (y ∙ go (hasPlace s ps) refl))
   where
     go : (b : Bool) → hasPlace s ps ≡ b → cond (hasPlace s ps) (placeOf s ps) 8 ≡ placeOf s ps
     go true q = rw q

@@ -1,14 +1,24 @@
--- The search that the code makes: B7 and the place of a source in one pass.
+-- The search that the code makes: B7, the place of a source and what is due, in one pass.
 use Prim.Native.Nat.{ℕ}
-use mathlib.Core.Bool.{cond, not, _||_}
-use mathlib.Core.List.{List}
+use mathlib.Core.Bool.{Bool, false, cond, not, _||_}
+use mathlib.Core.List.{List, [], _∷_}
 use Rattle.reception.specs.Place.{Place}
+use Rattle.reception.specs.Ticks.{isDue}
 use Rattle.reception.specs.Reception.{isFor, placeOf, soundBeside, sound}
+use Rattle.sources.specs.declared.Looked.{Looked}
 
 -- What has been found of s after p, place i behind the places ps: 9 where B7 refuses p.
 unfoldable pub nextFound : ℕ → List Place → Place → ℕ → ℕ → ℕ
 nextFound s ps p i found = cond (not (p .held) || soundBeside ps p) (cond (isFor s p) i found) 9
 
--- The place of s, 8 where there is none, and 9 where B7 refuses the places.
-unfoldable pub lookedUp : ℕ → List Place → ℕ
-lookedUp s ps = cond (sound ps) (placeOf s ps) 9
+-- Whether one of the places holds a datagram that is due at the tick `now`.
+abbrev pub anyDue : ℕ → List Place → Bool
+anyDue now [] = false
+anyDue now (p ∷ ps) = isDue now p || anyDue now ps
+
+abbrev pub looked : ℕ → Bool → Looked
+looked found due = record { found = found; due = due }
+
+-- The place of s, 8 where there is none, and whether one is due; 9 where B7 refuses the places.
+unfoldable pub lookedUp : ℕ → ℕ → List Place → Looked
+lookedUp s now ps = cond (sound ps) (looked (placeOf s ps) (anyDue now ps)) (looked 9 false)

@@ -1,15 +1,22 @@
-// The eight places of the reception state looked through: for a source, with B7, and for a free place.
+// The eight places of the reception state looked through: for a source, with B7 and what is due, and for a free place.
 ghost use mathlib.Core.Path.{_≡_};
-ghost use mathlib.Core.Bool.{true, false};
+ghost use mathlib.Core.Bool.{true, false, _||_};
 ghost use Prim.Native.Nat.{ℕ};
 ghost use lib.Bits.{bitOr};
 ghost use lib.ListN.{take, getD};
 ghost use Rattle.reception.specs.Place.{freePlace};
-ghost use Rattle.reception.specs.Reception.{freeIn};
+ghost use Rattle.reception.specs.Ticks.{isDue};
+ghost use Rattle.reception.specs.Reception.{freeIn, sound};
 ghost use Rattle.reception.specs.PlaceBytes.{placesIn};
 ghost use Rattle.sources.specs.Search.{nextFound, lookedUp};
 
 const PLACES: usize = 8;
+
+// What a search finds: the place of a source, 8 where there is none and 9 where B7 refuses the places; and whether a datagram is due.
+pub struct Looked {
+    pub found: usize,
+    pub due: bool,
+}
 
 // The first free place: 8 where there is none.
 pub fn find_free(places: &[u8; 64]) -> usize
@@ -23,6 +30,20 @@ pub fn find_free(places: &[u8; 64]) -> usize
         i += 1;
     }
     i
+}
+
+// Whether B7 lets the places pass.
+pub fn are_sound(places: &[u8; 64]) -> bool
+    ensures { λ r. ⌜ r ≡ sound (placesIn (now (places .entry))) ⌝ }
+{
+    let mut i: usize = 0;
+    while i < PLACES {
+        if !soundness::is_sound_at(places, i) {
+            return false;
+        }
+        i += 1;
+    }
+    true
 }
 
 // What the search for a source has found after place i, where it had `found` before: 9 where B7 refuses place i.
@@ -59,21 +80,33 @@ fn is_idle(places: &[u8; 64]) -> bool
     held_of_first(places) | held_of_last(places) == 0
 }
 
-// The place of a source, 8 where there is none, and 9 where B7 refuses the places.
-pub fn look_up(places: &[u8; 64], source: u16) -> usize
-    ensures { λ r. ⌜ r ≡ lookedUp source (placesIn (now (places .entry))) ⌝ }
+// Whether a datagram is due after place i, where it was `due` before. Both are asked without a branch: that is quicker.
+fn next_due(places: &[u8; 64], i: usize, tick: u16, due: bool) -> bool
+    ensures { λ r. ⌜ r ≡ (due || isDue tick (getD (placesIn (now (places .entry))) i freePlace)) ⌝ }
+{
+    timeouts::is_due(places, i, tick) | due
+}
+
+// The place of a source, 8 where there is none, and whether a datagram is due at the tick; or 9 where B7 refuses the places.
+pub fn look_up(places: &[u8; 64], source: u16, tick: u16) -> Looked
+    ensures { λ r. ⌜ r ≡ lookedUp source tick (placesIn (now (places .entry))) ⌝ }
 {
     if is_idle(places) {
-        return PLACES;
+        return Looked {
+            found: PLACES,
+            due: false,
+        };
     }
     let mut found: usize = PLACES;
+    let mut due: bool = false;
     let mut i: usize = 0;
     while i < PLACES {
         found = next_found(places, i, source, found);
         if found == 9 {
-            return 9;
+            return Looked { found, due: false };
         }
+        due = next_due(places, i, tick, due);
         i += 1;
     }
-    found
+    Looked { found, due }
 }

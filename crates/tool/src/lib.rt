@@ -190,8 +190,8 @@ pub extern "C" fn bujorelm_join(
     header: u32,
     payload: &[u8],
 ) -> JoinedFields
-    ensures joins { λ r. ⌜ Joins (receive alias (stateIn (now (places .entry)) (now (pool .entry))) (canFrame header (now (payload .entry)))) (now (payload .entry)) (outcomeIs r) (now (places .entry)) (now (places .exit)) (now (pool .exit)) ⌝ }
+    ensures joins { λ r. ⌜ Joins (receive alias 0 (stateIn (now (places .entry)) (now (pool .entry))) (canFrame header (now (payload .entry)))) (now (payload .entry)) (outcomeIs r) (now (places .entry)) (now (places .exit)) (now (pool .exit)) ⌝ }
     ensures numbers { λ r. ⌜ r ≡ joinedOf (outcomeIs r) ⌝ }
 {
-    of_outcome(joining::join(pool, places, alias, header, payload))
+    of_outcome(joining::join(pool, places, alias, 0, header, payload))
 }

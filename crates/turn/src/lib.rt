@@ -5,6 +5,9 @@ ghost use Rattle.reception.specs.PlaceBytes.{stateIn};
 ghost use Rattle.handling.specs.Handling.{fixed, contents};
 ghost use Rattle.session.specs.Turn.{answerWithRoom, Prints};
 
+// A session has no clock: each of its frames comes at this tick.
+const TICK: u16 = 0;
+
 // A line that was read: its frame is handled and what the board sends is printed into `out` from index `at` on, or `?`. Returns the index past the
 // text. Where `out` has no room for the longest answer, the line is not answered.
 pub fn answer_line(
@@ -41,6 +44,7 @@ pub fn answer_line(
         lock,
         pool,
         places,
+        TICK,
         frame.header,
         buffer::part(&bytes, 0, frame.len as usize),
         &mut reply,

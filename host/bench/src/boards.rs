@@ -4,13 +4,13 @@
 //! in room that the caller lends, on either side. The library does that in one call. The model
 //! does it in two, as its caller would write them: it handles the frame, and then writes the
 //! transport reply and the frames of the reply. Neither side allocates, and neither hands frames on
-//! by value.
+//! by value. Every frame comes at one time, at which nothing is due; neither side knows that.
 
 use std::hint::black_box;
 
 use compare::ffi::{self, Lock, Places, Pool, PLACE_BYTES};
-use compare::layout::{canonical, frame_bytes, set_place, Held};
-use model::{FrameAnswer, Reception, Space, Unfinished, MOST_SENT};
+use compare::layout::{canonical, frame_bytes, set_place, unfinished, Held};
+use model::{FrameAnswer, HouseNumber, Reception, Space, Unfinished, MOST_SENT};
 
 /// A frame to be fed in.
 #[derive(Clone, Copy, Debug)]
@@ -57,6 +57,8 @@ pub struct Blueprint {
 
 const BEGUN: [u8; 20] = [0x20; 20];
 const WRITE_LENGTHS: u8 = 0xF2;
+/// The tick of every call, and of the last accepted frame of what is unfinished at the start.
+const TICK: u16 = 0;
 
 /// The board as a caller of the library keeps it.
 pub struct LibraryBoard {
@@ -104,8 +106,12 @@ impl LibraryBoard {
         let mut places = [0; ffi::PLACES_SIZE];
         let mut pool = [0; ffi::POOL_BYTES];
         for (index, &source) in blueprint.others.iter().enumerate() {
-            let len = BEGUN.len() as u8;
-            set_place(&mut places, index, canonical(Some(Held { len, source })));
+            let held = Held {
+                len: BEGUN.len() as u8,
+                source,
+                tick: TICK,
+            };
+            set_place(&mut places, index, canonical(Some(held)));
             pool[PLACE_BYTES * index..][..BEGUN.len()].copy_from_slice(&BEGUN);
         }
         Self {
@@ -134,6 +140,7 @@ impl LibraryBoard {
             &mut self.lock,
             &mut self.pool,
             &mut self.places,
+            black_box(TICK),
             frame.header,
             frame.data(),
             &mut self.reply,
@@ -141,6 +148,18 @@ impl LibraryBoard {
         );
         black_box(&self.frames);
         numbers
+    }
+
+    /// Brings a lone tick.
+    #[inline]
+    pub fn tick(&mut self) -> ffi::Numbers {
+        ffi::handle_tick(black_box(&mut self.places), black_box(TICK))
+    }
+
+    /// How many datagrams are unfinished.
+    #[must_use]
+    pub fn unfinished(&self) -> usize {
+        unfinished(&self.places, &self.pool).count()
     }
 
     /// The first so many frames of the room for them, as bytes.
@@ -177,6 +196,7 @@ impl ModelBoard {
                 source,
                 length: BEGUN.len(),
                 bytes: &BEGUN,
+                last_accepted: u64::from(TICK),
             })
             .collect();
         Self {
@@ -209,6 +229,7 @@ impl ModelBoard {
             &mut self.memory,
             &mut self.lock,
             &mut self.reception,
+            black_box(u64::from(TICK)),
             frame.header,
             frame.data(),
             &mut self.reply,
@@ -223,6 +244,18 @@ impl ModelBoard {
         );
         black_box(&self.frames);
         (answer, count)
+    }
+
+    /// Brings a lone tick.
+    #[inline]
+    pub fn tick(&mut self) -> Result<(), HouseNumber> {
+        model::handle_time(black_box(&mut self.reception), black_box(u64::from(TICK)))
+    }
+
+    /// How many datagrams are unfinished.
+    #[must_use]
+    pub fn unfinished(&self) -> usize {
+        self.reception.unfinished().count()
     }
 
     /// The first so many frames of the room for them, as the library's bytes.

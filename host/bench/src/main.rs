@@ -8,16 +8,19 @@ use std::hint::black_box;
 use std::process::ExitCode;
 
 use bench::measure::{measure, Figures, Subject};
-use bench::scenes::{by_others, by_spaces, on_four_spaces};
+use bench::scenes::{by_others, by_spaces, on_four_spaces, with_others};
 use bench::splitting::{chunk, split_by_library, split_by_model};
 use compare::ffi;
 
 /// The library is to take no longer than the model.
 const GOAL: f64 = 1.0;
 
-/// The row that the goal is not set for: a call of a few instructions, which the compiler puts
-/// into its caller where it is the model's and cannot where it is the library's.
-const EXEMPT: &str = "Received OK frame";
+const RECEIVED_OK: &str = "Received OK frame";
+const IDLE_TICK: &str = "lone tick, nothing unfinished";
+
+/// The rows that the goal is not set for: calls of a few instructions, which the compiler puts
+/// into their caller where they are the model's and cannot where they are the library's.
+const EXEMPT: [&str; 2] = [RECEIVED_OK, IDLE_TICK];
 
 const BOARD: u16 = 0x22B;
 const TOOL: u16 = 0x123;
@@ -84,7 +87,7 @@ fn print_ratios(groups: &[Vec<Subject>]) -> ExitCode {
     rows.sort_by(|one, other| one.0.total_cmp(&other.0));
     let mut over = 0;
     for (ratio, name) in &rows {
-        let mark = if *name == EXEMPT {
+        let mark = if EXEMPT.contains(name) {
             "  (no goal)"
         } else if *ratio > GOAL {
             over += 1;
@@ -112,7 +115,7 @@ fn smaller_calls() -> Vec<Subject<'static>> {
         cut("cut of 70 bytes", &REPLY),
         cut("cut of 8 bytes", &REPLY[..8]),
         Subject::new(
-            EXEMPT,
+            RECEIVED_OK,
             1,
             repeat(move || ffi::received_ok(black_box(BOARD), TOOL, 0x80, black_box(&mut room))),
             repeat(|| model::received_ok_frame(black_box(BOARD), TOOL, 0x80)),
@@ -126,6 +129,8 @@ fn smaller_calls() -> Vec<Subject<'static>> {
         print("line with 8 bytes of data printed", LINE),
         print("line with 2 bytes of data printed", SHORT_LINE),
         split("line of a chunk of 64 KiB, split off and read"),
+        Subject::of_ticks(IDLE_TICK, &with_others(0)),
+        Subject::of_ticks("lone tick, eight unfinished, none due", &with_others(8)),
     ]
 }
 

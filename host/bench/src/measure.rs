@@ -4,7 +4,7 @@
 use std::hint::black_box;
 use std::time::Instant;
 
-use crate::boards::{LibraryBoard, ModelBoard};
+use crate::boards::{Blueprint, LibraryBoard, ModelBoard};
 use crate::scenes::Scene;
 use compare::answer::Answer;
 
@@ -89,6 +89,35 @@ impl<'s> Subject<'s> {
                     for frame in &scene.frames {
                         black_box(model.frame(black_box(frame)));
                     }
+                }
+            },
+        )
+    }
+
+    /// Lone ticks on a board, after a test that both sides do the same with one: they drop nothing.
+    ///
+    /// # Panics
+    ///
+    /// Where they do not.
+    #[must_use]
+    pub fn of_ticks(name: &str, blueprint: &Blueprint) -> Self {
+        let mut library = LibraryBoard::new(blueprint);
+        let mut model = ModelBoard::new(blueprint);
+        assert_eq!(Answer::from(library.tick()), Answer::Nothing, "{name}");
+        assert_eq!(model.tick(), Ok(()), "{name}");
+        assert_eq!(library.unfinished(), blueprint.others.len(), "{name}");
+        assert_eq!(model.unfinished(), blueprint.others.len(), "{name}");
+        Self::new(
+            name,
+            1,
+            move |times| {
+                for _ in 0..times {
+                    black_box(library.tick());
+                }
+            },
+            move |times| {
+                for _ in 0..times {
+                    let _ = black_box(model.tick());
                 }
             },
         )

@@ -55,7 +55,8 @@ fn with_spaces(count: usize) -> Blueprint {
 }
 
 /// The board with so many tools that have a datagram unfinished.
-fn with_others(count: usize) -> Blueprint {
+#[must_use]
+pub fn with_others(count: usize) -> Blueprint {
     let mut board = demonstration();
     board.others = (0..count).map(|index| 0x700 + index as u16).collect();
     board
@@ -186,7 +187,7 @@ pub fn by_spaces() -> Vec<Scene> {
 #[must_use]
 pub fn by_others() -> Vec<Scene> {
     let mut scenes = Vec::new();
-    for count in [0, 4, 7] {
+    for count in [0, 4, 7, 8] {
         scenes.push(scene(
             &format!("{count} unfinished: read of 2 bytes, one frame"),
             with_others(count),
@@ -200,5 +201,10 @@ pub fn by_others() -> Vec<Scene> {
             in_two(&[0x20, 0x08, 0, 0, 0, 2, 0xFD, 0x0F, 0x5A]),
         ));
     }
+    scenes.push(scene(
+        "8 unfinished: ignored frame",
+        with_others(8),
+        vec![Incoming::new(0x1A30_0123, &[0x20, 0x80])],
+    ));
     scenes
 }

@@ -1,12 +1,15 @@
 /*
  * A minimal board: 64 bytes of settings that tools may read and write, and a CDI that they may read.
  *
- * The CAN controller is played by an array of received frames and by standard output. In a driver can_receive, can_send and store talk to
- * the hardware; the rest stays as it is.
+ * The CAN controller is played by an array of received frames and by standard output. In a driver can_receive, can_send, store and
+ * tick_now talk to the hardware, and the main loop has no end; the rest stays as it is.
  */
+#define _POSIX_C_SOURCE 200809L
+
 #include "bujorelm.h"
 
 #include <stdio.h>
+#include <time.h>
 
 /* ---- The hardware ---- */
 
@@ -16,7 +19,8 @@ struct received {
     uint8_t data[8];
 };
 
-/* The next received data frame with an extended header; false where there is none. */
+/* The next received data frame with an extended header. One that has not come is waited for, but no longer than a second: false where none
+   comes. */
 static bool can_receive(struct received *frame)
 {
     static const struct received bus[] = {
@@ -61,6 +65,15 @@ static bool store(size_t at, const uint8_t *bytes, size_t len)
     return true;
 }
 
+/* The low 16 bits of a free-running count of milliseconds. */
+static uint16_t tick_now(void)
+{
+    struct timespec t = {0, 0};
+
+    (void)clock_gettime(CLOCK_MONOTONIC, &t);
+    return (uint16_t)((uint64_t)t.tv_sec * 1000 + (uint64_t)t.tv_nsec / 1000000);
+}
+
 /* ---- The board ---- */
 
 static const uint8_t cdi[] = "<cdi/>"; /* with the zero byte that ends it */
@@ -95,7 +108,7 @@ static bool is_refused(struct bujorelm_result result)
 /* A received frame: handled, then stored, then answered. */
 static void board_receive(const struct received *frame)
 {
-    const struct bujorelm_result result = bujorelm_node_handle_frame(&node, frame->header, frame->data, frame->len);
+    const struct bujorelm_result result = bujorelm_node_handle_frame(&node, tick_now(), frame->header, frame->data, frame->len);
 
     if (is_refused(result)) {
         return;
@@ -109,10 +122,21 @@ static void board_receive(const struct received *frame)
     }
 }
 
-int main(void)
+/* A turn of the main loop. Where no frame comes, the tick comes alone: it drops what a tool has begun and left. */
+static bool turn(void)
 {
     struct received frame;
 
+    if (can_receive(&frame)) {
+        board_receive(&frame);
+        return true;
+    }
+    (void)is_refused(bujorelm_node_tick(&node, tick_now()));
+    return false;
+}
+
+int main(void)
+{
     if (!bujorelm_version_fits()) {
         fputs("the archive is of another version than the header\n", stderr);
         return 1;
@@ -121,8 +145,8 @@ int main(void)
     if (is_refused(bujorelm_node_check(&node))) {
         return 1;
     }
-    while (can_receive(&frame)) {
-        board_receive(&frame);
+    /* The bus that is played here ends when it is quiet. */
+    while (turn()) {
     }
     return 0;
 }

@@ -2,6 +2,8 @@
  * The demonstration board of document 01 on a CAN interface of Linux, its memory kept in a file.
  *
  *   socketcan INTERFACE FILE
+ *
+ * A tick is a millisecond: a datagram of which nothing comes for more than 3 seconds is dropped.
  */
 #define _DEFAULT_SOURCE
 
@@ -11,11 +13,16 @@
 #include <linux/can.h>
 #include <linux/can/raw.h>
 #include <net/if.h>
+#include <poll.h>
 #include <stdio.h>
 #include <stdlib.h>
 #include <string.h>
 #include <sys/socket.h>
+#include <time.h>
 #include <unistd.h>
+
+/* For how many milliseconds a frame is waited for before a tick comes alone. */
+#define TICK_PAUSE 1000
 
 static uint8_t memory[DEMONSTRATION_MEMORY_SIZE];
 static struct bujorelm_node node;
@@ -58,28 +65,54 @@ static bool is_refused(struct bujorelm_result result)
     return true;
 }
 
-/* Serves the bus until it ends. */
+/* The low 16 bits of the milliseconds on a clock that nobody sets. */
+static uint16_t tick_now(void)
+{
+    struct timespec t = {0, 0};
+
+    (void)clock_gettime(CLOCK_MONOTONIC, &t);
+    return (uint16_t)((uint64_t)t.tv_sec * 1000 + (uint64_t)t.tv_nsec / 1000000);
+}
+
+/* A frame for the board: handled, then stored, then answered. */
+static void receive_frame(int bus, int file, uint32_t header, const struct can_frame *received)
+{
+    const struct bujorelm_result result = bujorelm_node_handle_frame(&node, tick_now(), header, received->data, received->can_dlc);
+
+    if (is_refused(result)) {
+        return;
+    }
+    if (result.kind == BUJORELM_WRITTEN && !store(file, result.changed_at, result.changed_len)) {
+        perror("store");
+        return;
+    }
+    if (!bujorelm_send_frames(node.frames, result.frame_count, send_frame, &bus)) {
+        perror("send");
+    }
+}
+
+static bool comes_in_time(int bus)
+{
+    struct pollfd polled = {.fd = bus, .events = POLLIN};
+
+    return poll(&polled, 1, TICK_PAUSE) > 0;
+}
+
+/* Serves the bus until it ends. Where no frame comes for a while, or only one that no board is interested in, the tick comes alone. */
 static void serve(int bus, int file)
 {
-    struct can_frame received;
-
-    while (read(bus, &received, sizeof received) == (ssize_t)sizeof received) {
-        struct bujorelm_result result;
+    for (;;) {
+        const bool comes = comes_in_time(bus);
+        struct can_frame received;
         uint32_t header;
 
-        if (!header_of(&received, &header)) {
-            continue;
+        if (comes && read(bus, &received, sizeof received) != (ssize_t)sizeof received) {
+            return;
         }
-        result = bujorelm_node_handle_frame(&node, header, received.data, received.can_dlc);
-        if (is_refused(result)) {
-            continue;
-        }
-        if (result.kind == BUJORELM_WRITTEN && !store(file, result.changed_at, result.changed_len)) {
-            perror("store");
-            continue;
-        }
-        if (!bujorelm_send_frames(node.frames, result.frame_count, send_frame, &bus)) {
-            perror("send");
+        if (comes && header_of(&received, &header)) {
+            receive_frame(bus, file, header, &received);
+        } else {
+            (void)is_refused(bujorelm_node_tick(&node, tick_now()));
         }
     }
 }

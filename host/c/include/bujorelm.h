@@ -10,7 +10,8 @@
  * compiler is stopped below where the platform or the layout of a struct is not the library's.
  *
  * The library joins the datagram frames that a board receives, handles each finished datagram, and gives the frames that the board sends
- * back. "Document 01" below is the paper that fixes its behaviour. docs/DRIVER.md shows how a driver uses it.
+ * back. "Document 01" below is the paper that fixes its behaviour, and "C-14" the change request of that name in document 02, which does so for
+ * ticks. docs/DRIVER.md shows how a driver uses it.
  *
  * Rules that hold for every function:
  *
@@ -50,7 +51,7 @@ extern "C" {
 
 /* The version of this header: major in the upper 16 bits, minor in the lower 16. Another major is another interface; a greater minor has
    more, and all that a smaller one has. bujorelm_version_fits compares it with the archive's. */
-#define BUJORELM_VERSION 0x00030000u
+#define BUJORELM_VERSION 0x00040000u
 
 /* ---- Sizes ---- */
 
@@ -70,6 +71,11 @@ extern "C" {
 /* Sources that may each have one unfinished datagram, and the bytes of the pool: 72 for each of them. */
 #define BUJORELM_PLACES 8u
 #define BUJORELM_POOL_SIZE 576u
+
+/* The greatest age of an unfinished datagram, in ticks since its source's last accepted frame: an older one is dropped. And the bound on the
+   ticks from one call that brings a tick to the next: fewer than these may pass (see "Ticks" below). */
+#define BUJORELM_AGE_MAX 3000u
+#define BUJORELM_TICKS_BOUND 62000u
 
 /* The most bytes of data in a CAN frame, the most frames that a datagram is cut into, and the most that one call gives to be sent: a
    transport reply and then a datagram. */
@@ -92,15 +98,17 @@ extern "C" {
 
 /* ---- Numbers ---- */
 
-/* What came of a call: `kind` in struct bujorelm_result. What is to be sent is among the frames that bujorelm_handle_frame gives. */
+/* What came of a call: `kind` in struct bujorelm_result. What is to be sent is among the frames that bujorelm_handle_frame gives. A call that
+   brings a tick and is not refused, of whatever kind it then is, has first dropped the unfinished datagrams that were too old. */
 enum bujorelm_kind {
     /* Refused because of what the caller handed in; `house` says why, and `position` which space is wrong. Nothing is sent and nothing has
-       changed. */
+       changed: nothing is dropped either. */
     BUJORELM_REFUSED = 0,
     /* Not a frame for this board: another header, another destination, the board's own alias as source, a header over 29 bits, data
-       over 8 bytes. Nothing is sent and nothing has changed. */
+       over 8 bytes. Nothing is sent, and nothing has changed but that unfinished datagrams that were too old are dropped. */
     BUJORELM_IGNORED = 1,
-    /* Joined to an unfinished datagram, or the first of one. Nothing is sent; the reception state has changed. */
+    /* Of a frame: joined to an unfinished datagram, or the first of one. Of a lone tick: not refused. Nothing is sent; the reception state
+       may have changed. */
     BUJORELM_JOINED = 2,
     /* A frame that does not follow on the ones before it. Rejected is sent with `code`, which is 0x2000, 0x2020 or 0x2040. The reception
        state may have changed: the source's unfinished datagram, if any, is dropped. */
@@ -146,8 +154,9 @@ enum bujorelm_house {
     BUJORELM_HOUSE_B5 = 5,
     /* The reply buffer has fewer than 72 bytes. */
     BUJORELM_HOUSE_B6 = 6,
-    /* In bujorelm_handle_frame only: the reception state holds an unfinished datagram over 72 bytes, or one from a source over 4,095,
-       or two from one source. A state that starts all zero and is changed by calls alone never does. */
+    /* In bujorelm_handle_frame, and the only one in bujorelm_handle_tick: the reception state holds an unfinished datagram over 72 bytes, or
+       one from a source over 4,095, or two from one source. A state that starts all zero and is changed by calls alone never does. It is
+       tested before anything is dropped, and asks nothing of the ticks in the state. */
     BUJORELM_HOUSE_B7 = 7
     /* B9 belongs to bujorelm_cut alone, which then makes no frame and returns 0. */
 };
@@ -180,7 +189,7 @@ enum bujorelm_code {
     /* In Rejected, a transport refusal: a First while eight other sources have a datagram unfinished. Nothing is opened. */
     BUJORELM_CODE_BUFFER_UNAVAILABLE = 0x2020,
     /* In Rejected, a transport refusal: a Single or First while its source has a datagram unfinished, an empty Middle, or a Middle or
-       Last while it has none. Its unfinished datagram, if any, is dropped. */
+       Last while it has none, as after one that was dropped for its age. Its unfinished datagram, if any, is dropped. */
     BUJORELM_CODE_OUT_OF_ORDER = 0x2040
 };
 
@@ -224,15 +233,17 @@ struct bujorelm_lock {
     uint8_t bytes[6];
 };
 
-/* A place for an unfinished datagram: whether it holds one (any byte but 0), how many bytes of it have come, and the alias that it comes
-   from. Those bytes are in the pool, from index 72 times the place's own on. `unused` means nothing, and where the place holds no datagram
-   `len` and `source` mean nothing either. A place that a call changes has 1 in `held` and zeros in `unused` afterwards, or is all zero
-   where it holds no datagram any more; a place that the call does not change keeps all its bytes. */
+/* A place for an unfinished datagram: whether it holds one (any byte but 0), how many bytes of it have come, the alias that it comes from,
+   and the tick of that source's last accepted frame. The bytes that have come are in the pool, from index 72 times the place's own on.
+   `unused` means nothing, and where the place holds no datagram `len`, `source` and `tick` mean nothing either. A place that a call changes
+   has 1 in `held` and zeros in `unused` afterwards, or is all zero where it holds no datagram any more; a place that the call does not
+   change keeps all its bytes. */
 struct bujorelm_place {
     uint8_t held;
     uint8_t len;
     uint16_t source;
-    uint8_t unused[4];
+    uint16_t tick;
+    uint8_t unused[2];
 };
 
 /* The reception state, but for the bytes in the pool: all zero at the start, when nothing is unfinished; what the pool holds then does not
@@ -256,7 +267,7 @@ struct bujorelm_result {
     uint8_t changed_len;
     /* Of BUJORELM_REPLIED: how many bytes of the reply buffer are the reply, 1 to 72. */
     uint8_t reply_len;
-    /* How many frames bujorelm_handle_frame gives to be sent, 0 to 10. Always 0 from bujorelm_handle_datagram. */
+    /* How many frames bujorelm_handle_frame gives to be sent, 0 to 10. Always 0 from bujorelm_handle_datagram and bujorelm_handle_tick. */
     uint8_t frame_count;
     /* Of BUJORELM_REFUSED with B2 to B5: the position of the refused space in the table, 0 to 15, 0 for the first. In every other result it
        is BUJORELM_NO_POSITION, and never 0. bujorelm_position_of tells the two apart. */
@@ -324,7 +335,8 @@ BUJORELM_SIZE(place, 8);
 BUJORELM_AT(place, held, 0);
 BUJORELM_AT(place, len, 1);
 BUJORELM_AT(place, source, 2);
-BUJORELM_AT(place, unused, 4);
+BUJORELM_AT(place, tick, 4);
+BUJORELM_AT(place, unused, 6);
 
 BUJORELM_SIZE(reception, 64);
 BUJORELM_AT(reception, places, 0);
@@ -367,6 +379,23 @@ BUJORELM_ASSERT(least_significant_byte_first, __BYTE_ORDER__ == __ORDER_LITTLE_E
 uint32_t bujorelm_version(void);
 
 /*
+ * Ticks (C-14). The driver keeps a free-running count of 16 bits, which goes from 65,535 to 0, and hands it in with each frame and, by
+ * bujorelm_handle_tick, alone. Before a frame is looked at, even one that is ignored, and at a lone tick, each unfinished datagram whose
+ * source's last accepted frame is more than 3,000 ticks back is dropped without an answer; one that is just 3,000 back stays. Accepted are
+ * the frames that open, continue or finish a datagram. One that is ignored or refused (0x2000, 0x2020, 0x2040) does not renew the tick.
+ *
+ * What the driver must see to, for each reception state:
+ *
+ * - One count, in both calls, which never goes back from one call to the next: a datagram that meets an earlier count than its own looks up to
+ *   65,535 ticks old, and is dropped too early. How long a tick lasts is the driver's choice; of milliseconds, 3,000 are 3 seconds.
+ * - Fewer than 62,000 ticks between two calls that bring one and that no house number refuses: on a quiet bus, a lone tick at least so
+ *   often. What such a call keeps is at most 3,000 ticks old, so that it is less than 65,000 old at the next, and the 16-bit difference of
+ *   the ticks is its true age. After a longer pause the count may have gone round: then a datagram may look younger than it is and stay
+ *   until a later call finds it too old. Meanwhile it is unfinished like any other, with what follows for its source's next frame and for a
+ *   ninth source. None is dropped too early by that. While nothing is unfinished, any pause will do.
+ */
+
+/*
  * Handles a frame from the bus, and gives the frames to be sent. Hand in every received data frame with an extended header; those that are
  * not for the board are ignored.
  *
@@ -379,6 +408,7 @@ uint32_t bujorelm_version(void);
  * lock           lent; the lock memory
  * pool           lent, 576 bytes: the bytes of unfinished datagrams. Keep them as they are between calls
  * reception      lent; the reception state. Keep it as it is between calls
+ * tick           the driver's tick now
  * header         the 29-bit CAN header, without any flag that a controller or a socket puts above it
  * payload        lent; the frame's data. Any length may be handed in: a frame of over 8 bytes is ignored
  * reply          lent, at least 72 bytes. It need not be cleared, and nothing of it is needed after the call: its bytes are in the frames
@@ -391,14 +421,29 @@ uint32_t bujorelm_version(void);
  *
  * What never happens: a byte of memory changes for any kind but BUJORELM_WRITTEN, or outside the bytes that it names; a byte of the lock
  * changes but by a Lock/Reserve that is replied to; a byte of the reply buffer is written for any kind but BUJORELM_REPLIED, or behind its
- * first `reply_len`; a byte of `frames` is written behind the first `frame_count`; any byte of anything changes for BUJORELM_REFUSED or
- * BUJORELM_IGNORED.
+ * first `reply_len`; a byte of `frames` is written behind the first `frame_count`; any byte of anything changes for BUJORELM_REFUSED, or for
+ * BUJORELM_IGNORED but in the places whose datagrams were too old.
  */
 struct bujorelm_result bujorelm_handle_frame(uint16_t alias, uint8_t write_lengths, const struct bujorelm_space *spaces,
                                              size_t spaces_size, const uint8_t *flash, size_t flash_len, uint8_t *memory,
                                              size_t memory_len, struct bujorelm_lock *lock, uint8_t *pool,
-                                             struct bujorelm_reception *reception, uint32_t header, const uint8_t *payload,
-                                             size_t payload_len, uint8_t *reply, size_t reply_len, struct bujorelm_frame *frames);
+                                             struct bujorelm_reception *reception, uint16_t tick, uint32_t header,
+                                             const uint8_t *payload, size_t payload_len, uint8_t *reply, size_t reply_len,
+                                             struct bujorelm_frame *frames);
+
+/*
+ * Brings a tick alone, for the time in which no frame comes: drops the unfinished datagrams that are too old, and does nothing else. The
+ * pool is not needed for it.
+ *
+ * reception      lent; the reception state
+ * tick           the driver's tick now, by the same count as in bujorelm_handle_frame
+ *
+ * Comes back: BUJORELM_REFUSED with B7, the only house number that is tested here, and then nothing has changed; or else BUJORELM_JOINED,
+ * whether or not anything was dropped. Nothing is to be sent.
+ *
+ * What never happens: a byte of a place changes that holds no datagram, or one that is not too old.
+ */
+struct bujorelm_result bujorelm_handle_tick(struct bujorelm_reception *reception, uint16_t tick);
 
 /*
  * Handles a datagram that some other transport has joined already. It needs no reception state, no pool and no room for frames; the rest is
@@ -584,13 +629,19 @@ static inline void bujorelm_node_start(struct bujorelm_node *node, const struct 
 }
 
 /* bujorelm_handle_frame for a node. The frames to be sent are node->frames[0] to node->frames[frame_count - 1]. */
-static inline struct bujorelm_result bujorelm_node_handle_frame(struct bujorelm_node *node, uint32_t header, const uint8_t *payload,
-                                                                size_t payload_len)
+static inline struct bujorelm_result bujorelm_node_handle_frame(struct bujorelm_node *node, uint16_t tick, uint32_t header,
+                                                                const uint8_t *payload, size_t payload_len)
 {
     return bujorelm_handle_frame(node->description.alias, node->description.write_lengths, node->description.spaces,
                                  bujorelm_spaces_size(node->description.count), node->flash, node->flash_len, node->memory,
-                                 node->memory_len, &node->lock, node->pool, &node->reception, header, payload, payload_len, node->reply,
-                                 sizeof node->reply, node->frames);
+                                 node->memory_len, &node->lock, node->pool, &node->reception, tick, header, payload, payload_len,
+                                 node->reply, sizeof node->reply, node->frames);
+}
+
+/* bujorelm_handle_tick for a node. */
+static inline struct bujorelm_result bujorelm_node_tick(struct bujorelm_node *node, uint16_t tick)
+{
+    return bujorelm_handle_tick(&node->reception, tick);
 }
 
 /* bujorelm_handle_datagram for a node. The reply is the first `reply_len` bytes of node->reply. */
@@ -603,13 +654,19 @@ static inline struct bujorelm_result bujorelm_node_handle_datagram(struct bujore
 }
 
 /* What comes of a frame that no board is interested in, for the node as it stands: BUJORELM_REFUSED with the first house number that applies,
-   or else BUJORELM_IGNORED. A test for the start of the firmware, so that a bad description shows before the first frame. It changes nothing. */
+   or else BUJORELM_IGNORED. A test for the start of the firmware, so that a bad description shows before the first frame. It changes nothing,
+   and brings no tick. */
 static inline struct bujorelm_result bujorelm_node_check(const struct bujorelm_node *node)
 {
-    /* Header 0 is no datagram frame: a good node ignores it and a bad one is refused, so that nothing is written through this pointer. */
+    /* Header 0 is no datagram frame: a good node ignores it and a bad one is refused, so that nothing is written through this pointer. What
+       is too old by some tick is dropped from a copy of the reception state. */
     struct bujorelm_node *const same = (struct bujorelm_node *)(uintptr_t)node;
+    struct bujorelm_reception copy = node->reception;
 
-    return bujorelm_node_handle_frame(same, 0, NULL, 0);
+    return bujorelm_handle_frame(node->description.alias, node->description.write_lengths, node->description.spaces,
+                                 bujorelm_spaces_size(node->description.count), node->flash, node->flash_len, same->memory,
+                                 node->memory_len, &same->lock, same->pool, &copy, 0, 0, NULL, 0, same->reply, sizeof node->reply,
+                                 same->frames);
 }
 
 /* Puts a text, or a number in decimal digits, at a place, and returns the place behind it. */
@@ -714,10 +771,10 @@ static inline bool bujorelm_send_frames(const struct bujorelm_frame *frames, siz
 /* A received frame from its arrival until the frames that answer it are sent. What came of it is stored to `result`, which may be NULL,
    before the first frame is sent. Returns what bujorelm_send_frames does. A driver that has to store what was written before the tool hears
    of it calls bujorelm_node_handle_frame, stores, and then calls bujorelm_send_frames. */
-static inline bool bujorelm_node_receive(struct bujorelm_node *node, uint32_t header, const uint8_t *payload, size_t payload_len,
-                                         bujorelm_send_function send, void *context, struct bujorelm_result *result)
+static inline bool bujorelm_node_receive(struct bujorelm_node *node, uint16_t tick, uint32_t header, const uint8_t *payload,
+                                         size_t payload_len, bujorelm_send_function send, void *context, struct bujorelm_result *result)
 {
-    const struct bujorelm_result done = bujorelm_node_handle_frame(node, header, payload, payload_len);
+    const struct bujorelm_result done = bujorelm_node_handle_frame(node, tick, header, payload, payload_len);
 
     if (result != NULL) {
         *result = done;

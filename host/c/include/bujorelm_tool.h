@@ -291,6 +291,9 @@ struct bujorelm_reply bujorelm_read_reply(const uint8_t *datagram, size_t datagr
  * payload    lent; the frame's data
  *
  * A finished datagram is read before the next call: its bytes are the frame's data, or in the pool.
+ *
+ * Every frame has the tick 0 here, so that what is unfinished does not grow old: in a state that starts all zero and is changed by these calls
+ * alone, no place has another tick.
  */
 struct bujorelm_joined bujorelm_join(uint16_t alias, uint8_t *pool, struct bujorelm_reception *reception, uint32_t header,
                                      const uint8_t *payload, size_t payload_len);

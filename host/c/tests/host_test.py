@@ -1,4 +1,5 @@
-"""Tests of the reference host: document 01's session and odd lines on standard input, and several tools at once on TCP.
+"""Tests of the reference host: document 01's session and odd lines on standard input, several tools at once on TCP, and unfinished datagrams
+that grow old.
 
 Usage: python3 host_test.py HOST [STEP]
 
@@ -28,6 +29,9 @@ PATIENCE = 20
 CONNECTIONS_MAX = 64
 OUTPUT_MAX = 1 << 20
 WAIT_MAX = 5
+
+# The greatest age of an unfinished datagram, in seconds.
+AGE_MAX = 3
 
 SESSION_IN = b"""\
 :X1A22B123N200100000002ABCD;
@@ -586,6 +590,63 @@ def test_no_descriptors():
                 waiting.remove(tool)
 
 
+# ---- Time ----
+
+
+def line_from(pipe):
+    ready, _, _ = select.select([pipe], [], [], PATIENCE)
+    return pipe.readline() if ready else b""
+
+
+def asked(send, receive, text):
+    """What is answered to frames. Behind them goes a line that is no frame: what comes before its answer is the whole."""
+    send(text + b"?\n")
+    got = b""
+    while not got.endswith(b"?\n"):
+        part = receive()
+        if not part:
+            sys.exit(f"host_test.py: no answer to {text!r}; so far {got!r}")
+        got += part
+    return got[:-2]
+
+
+def frames(top, *sources):
+    """A First or a Last from each source; the two together are Update Complete."""
+    return b"".join(b":X%02X22B%03XN%s;\n" % (top, source, b"20" if top == 0x1B else b"A8") for source in sources)
+
+
+def grow_old(ask):
+    """Unfinished datagrams of a board. At each yield the given seconds have to pass."""
+    expect(ask(frames(0x1B, *range(1, 10))), b":X19A4822BN00092020;\n", "eight Firsts and a ninth")
+    begun = time.monotonic()
+    yield AGE_MAX / 2
+    # In time: the one is finished and another renewed.
+    expect(ask(frames(0x1D, 2)), b":X19A2822BN000200;\n", "a Last in time")
+    expect(ask(b":X1C22B003NA8;\n" + frames(0x1B, 2)), b"", "a Middle in time, and another First")
+    renewed = time.monotonic()
+    yield AGE_MAX / 2 + 0.1
+    # Too late, but for the two from which something has come in between.
+    expect(ask(frames(0x1B, 9) + frames(0x1D, 9)), b":X19A2822BN000900;\n", "the ninth when others are too old")
+    expect(ask(frames(0x1D, 1, 4)), b":X19A4822BN00012040;\n:X19A4822BN00042040;\n", "a Last that is too late")
+    expect(ask(b":X1D22B003N;\n" + frames(0x1D, 2)), b":X19A2822BN000300;\n:X19A2822BN000200;\n", "Lasts of those that are not too old")
+    expect((time.monotonic() - begun > AGE_MAX, time.monotonic() - renewed < AGE_MAX), (True, True), "fast enough for this test")
+
+
+def test_growing_old():
+    """An unfinished datagram is dropped when nothing has come of it for more than three seconds, and not before."""
+    with Hub() as hub, subprocess.Popen([HOST], stdin=subprocess.PIPE, stdout=subprocess.PIPE, bufsize=0) as host:
+        tool = hub.tool()
+        boards = [
+            grow_old(lambda text: asked(tool.send, tool.line, text)),
+            grow_old(lambda text: asked(host.stdin.write, lambda: line_from(host.stdout), text)),
+        ]
+        pauses = [next(board, 0) for board in boards]
+        while any(pauses):
+            time.sleep(max(pauses))
+            pauses = [next(board, 0) for board in boards]
+        tool.close()
+
+
 def test_usage():
     buffer = ["--port", "0", "--send-buffer"]
     more = (buffer, [*buffer, ""], [*buffer, "-1"], [*buffer, "1048577"], [*buffer, "1x"], ["--port", "0", "x", "1"], [*buffer, "1", "x"])
@@ -621,11 +682,21 @@ TESTS = (
 )
 
 
+def run_test(test):
+    begun = time.monotonic()
+    test()
+    print(f"host_test.py: {test.__name__} passed in {time.monotonic() - begun:.1f} s", flush=True)
+
+
 def main():
+    # What lets time pass, does so beside the others.
+    beside = os.fork()
+    if beside == 0:
+        run_test(test_growing_old)
+        return
     for test in TESTS:
-        begun = time.monotonic()
-        test()
-        print(f"host_test.py: {test.__name__} passed in {time.monotonic() - begun:.1f} s", flush=True)
+        run_test(test)
+    expect(os.waitpid(beside, 0)[1], 0, "the status of test_growing_old")
 
 
 main()

@@ -1,8 +1,8 @@
 /*
  * Tests of the library through its C interface: document 01's session and whole datagrams, every house number and transport refusal, the
  * bounds of every lent buffer, which bytes a write changes, the frames that are given to be sent, every value of the bytes that say yes or
- * no and of those that mean nothing, the GridConnect functions and the line splitter, the inline functions of the header, and pseudo-random
- * calls.
+ * no and of those that mean nothing, unfinished datagrams of every age, the GridConnect functions and the line splitter, the inline functions
+ * of the header, and pseudo-random calls.
  *
  * Usage: library [how many pseudo-random frames]
  */
@@ -33,9 +33,10 @@ static struct draft draft_demonstration(void)
     return d;
 }
 
-/* A board whose lent buffers lie between pages that cannot be touched. */
+/* A board whose lent buffers lie between pages that cannot be touched, and the tick that the next call for it brings. */
 struct board {
     struct bujorelm_node node;
+    uint16_t tick;
     struct guarded table;
     struct guarded flash;
     struct guarded memory;
@@ -47,11 +48,15 @@ static void board_new(struct board *b, const struct draft *draft, size_t flash_l
 {
     /* Now the one end, now the other lies at a guard. */
     static bool at_start;
+    /* Every board has a tick of its own, which stays unless a test changes it. */
+    static uint16_t tick;
     /* Of a table with too many spaces no byte is there to be looked at. */
     const size_t table_len = draft->count > BUJORELM_SPACES_MAX ? 0 : draft->count * sizeof draft->spaces[0];
     struct bujorelm_description description;
 
     at_start = !at_start;
+    tick = (uint16_t)(tick + 7919u);
+    b->tick = tick;
     b->table = guarded_new(table_len, at_start && table_len != 0);
     b->flash = guarded_new(flash_len, at_start);
     b->memory = guarded_new(memory_len, at_start);
@@ -92,6 +97,13 @@ static bool is_untouched(const uint8_t *bytes, size_t from, size_t end)
         }
     }
     return true;
+}
+
+static bool is_zero(const void *bytes, size_t len)
+{
+    static const uint8_t zeros[64];
+
+    return len <= sizeof zeros && memcmp(bytes, zeros, len) == 0;
 }
 
 /* Whether two stretches of bytes are the same but for `len` bytes from index `at` on. */
@@ -158,13 +170,20 @@ static bool same_places(const struct bujorelm_reception *a, const struct bujorel
     return memcmp(a, b, sizeof *a) == 0;
 }
 
+/* The same of all that a node keeps between calls. */
+static bool same_node(const struct bujorelm_node *a, const struct bujorelm_node *b)
+{
+    return same_places(&a->reception, &b->reception) && memcmp(&a->lock, &b->lock, sizeof a->lock) == 0 &&
+           memcmp(a->pool, b->pool, sizeof a->pool) == 0;
+}
+
 /* Whether the places say the same: two that hold nothing do, whatever else is in them. */
 static bool says_the_same(const struct bujorelm_place *a, const struct bujorelm_place *b)
 {
     if (a->held == 0 || b->held == 0) {
         return a->held == b->held;
     }
-    return a->len == b->len && a->source == b->source;
+    return a->len == b->len && a->source == b->source && a->tick == b->tick;
 }
 
 /* Whether the place has just the bytes that a call gives to one that it changes. */
@@ -178,13 +197,37 @@ static bool is_canonical(const struct bujorelm_place *p)
     return p->held == 1 && memcmp(p->unused, zeros, sizeof p->unused) == 0;
 }
 
-/* What holds of every call: at most one place changes, that one has canonical bytes, and all others keep theirs. */
-static bool follows_on(const struct bujorelm_reception *before, const struct bujorelm_reception *after)
+/* Whether a place holds a datagram that is too old at a tick. A tick that is the smaller of the two has gone round: the way leads over
+   65,536. */
+static bool is_too_old(const struct bujorelm_place *p, uint16_t tick)
 {
+    const int age = tick >= p->tick ? tick - p->tick : 65536 - p->tick + tick;
+
+    return p->held != 0 && age > 3000;
+}
+
+/* The places at a tick, before any frame is looked at: those whose datagrams are too old are all zero, and the others keep every byte. */
+static struct bujorelm_reception kept_at(const struct bujorelm_reception *before, uint16_t tick)
+{
+    struct bujorelm_reception kept = *before;
+
+    for (size_t i = 0; i < BUJORELM_PLACES; i++) {
+        if (is_too_old(&before->places[i], tick)) {
+            memset(&kept.places[i], 0, sizeof kept.places[i]);
+        }
+    }
+    return kept;
+}
+
+/* What holds of every call that is not refused: of what it keeps, at most one place changes, that one has canonical bytes, and all others keep
+   theirs. */
+static bool follows_on(const struct bujorelm_reception *before, const struct bujorelm_reception *after, uint16_t tick)
+{
+    const struct bujorelm_reception kept = kept_at(before, tick);
     size_t changed = 0;
 
     for (size_t i = 0; i < BUJORELM_PLACES; i++) {
-        const struct bujorelm_place *const a = &before->places[i];
+        const struct bujorelm_place *const a = &kept.places[i];
         const struct bujorelm_place *const b = &after->places[i];
 
         if (!says_the_same(a, b)) {
@@ -199,14 +242,19 @@ static bool follows_on(const struct bujorelm_reception *before, const struct buj
     return changed <= 1;
 }
 
+static size_t places_held(const struct bujorelm_node *node)
+{
+    size_t held = 0;
+
+    for (size_t i = 0; i < BUJORELM_PLACES; i++) {
+        held += node->reception.places[i].held != 0;
+    }
+    return held;
+}
+
 static bool nothing_unfinished(const struct bujorelm_node *node)
 {
-    for (size_t i = 0; i < BUJORELM_PLACES; i++) {
-        if (node->reception.places[i].held != 0) {
-            return false;
-        }
-    }
-    return true;
+    return places_held(node) == 0;
 }
 
 /* The header of a frame with these top five bits. */
@@ -288,8 +336,18 @@ static struct bujorelm_result call_frame(struct board *b, uint32_t header, const
     memset(b->frames.bytes, UNTOUCHED, b->frames.len);
     answer = bujorelm_handle_frame(n->description.alias, n->description.write_lengths, n->description.spaces,
                                    bujorelm_spaces_size(n->description.count), n->flash, n->flash_len, n->memory, n->memory_len, &n->lock,
-                                   n->pool, &n->reception, header, data, len, b->reply.bytes, b->reply.len, frames_in(&b->frames));
+                                   n->pool, &n->reception, b->tick, header, data, len, b->reply.bytes, b->reply.len,
+                                   frames_in(&b->frames));
     CHECK(gives_frames(&b->frames, answer, n->description.alias, header, b->reply.bytes));
+    return answer;
+}
+
+/* A lone tick to a board. */
+static struct bujorelm_result call_tick(struct board *b)
+{
+    const struct bujorelm_result answer = bujorelm_handle_tick(&b->node.reception, b->tick);
+
+    CHECK(answer.frame_count == 0);
     return answer;
 }
 
@@ -372,8 +430,8 @@ static struct bujorelm_frame *frames_of(const struct lent *l)
 static struct bujorelm_result feed_lent(const struct board *b, const struct lent *l, uint32_t header, const uint8_t *data, size_t len)
 {
     return bujorelm_handle_frame(0x22B, 0xF2, b->node.description.spaces, b->table.len, b->flash.bytes, b->flash.len, b->memory.bytes,
-                                 b->memory.len, (struct bujorelm_lock *)(void *)l->lock.bytes, l->pool.bytes, places_of(l), header, data,
-                                 len, b->reply.bytes, b->reply.len, frames_of(l));
+                                 b->memory.len, (struct bujorelm_lock *)(void *)l->lock.bytes, l->pool.bytes, places_of(l), b->tick, header,
+                                 data, len, b->reply.bytes, b->reply.len, frames_of(l));
 }
 
 /* What the header asserts of sizes is true of the library too: a field of every struct goes over and comes back in its place, and nothing
@@ -381,10 +439,11 @@ static struct bujorelm_result feed_lent(const struct board *b, const struct lent
 static void test_layout(void)
 {
     static const uint8_t eight[8] = {1, 2, 3, 4, 5, 6, 7, 8};
-    /* As bytes, and not by the header's structs: Middle to 0x22B, of 0x123, in place 7; and the frame that 8 bytes are cut into. */
-    static const uint8_t place_0[8] = {1, 72, 0xFF, 0x0F, 0, 0, 0, 0};
-    static const uint8_t place_7[8] = {1, 64, 0x23, 0x01, 0, 0, 0, 0};
-    static const uint8_t place_7_after[8] = {1, 72, 0x23, 0x01, 0, 0, 0, 0};
+    /* As bytes, and not by the header's structs: Middle to 0x22B, of 0x123, in place 7, at tick 0xABCD, and what is 3,000 ticks old then in
+       place 0; and the frame that 8 bytes are cut into. */
+    static const uint8_t place_0[8] = {1, 72, 0xFF, 0x0F, 0x15, 0xA0, 0xAA, 0x55};
+    static const uint8_t place_7[8] = {1, 64, 0x23, 0x01, 0x00, 0xAB, 0x11, 0x22};
+    static const uint8_t place_7_after[8] = {1, 72, 0x23, 0x01, 0xCD, 0xAB, 0, 0};
     static const uint8_t single[16] = {0xEF, 0xCD, 0xAB, 0x1A, 8, 0, 0, 0, 1, 2, 3, 4, 5, 6, 7, 8};
     static const uint8_t received_ok[16] = {0x2B, 0x82, 0xA2, 0x19, 3, 0, 0, 0, 0x0F, 0x23, 0x80, 0, 0, 0, 0, 0};
     static const uint8_t locked[8] = {0x20, 0x88, 1, 2, 3, 4, 5, 6};
@@ -398,6 +457,7 @@ static void test_layout(void)
         /* docs/DRIVER.md says so. */
         CHECK(sizeof b.node == 936 && sizeof b.node.description == 24);
         board_demonstration(&b);
+        b.tick = 0xABCD;
         lent_new(&l, at_start != 0);
         memcpy(l.places.bytes, place_0, 8);
         memcpy(l.places.bytes + 56, place_7, 8);
@@ -414,6 +474,14 @@ static void test_layout(void)
         CHECK(is_answer(answer, BUJORELM_REPLIED, 0, 0x80, 0, 8));
         CHECK(memcmp(l.lock.bytes, locked + 2, 6) == 0);
         CHECK(memcmp(l.places.bytes, places, 64) == 0);
+
+        /* A lone tick is lent the places and nothing else. A tick later the one is too old, and in the end the other is. */
+        CHECK(is_joined(bujorelm_handle_tick(places_of(&l), 0xABCD)) && memcmp(l.places.bytes, places, 64) == 0);
+        memset(places, 0, 8);
+        CHECK(is_joined(bujorelm_handle_tick(places_of(&l), 0xABCE)) && memcmp(l.places.bytes, places, 64) == 0);
+        CHECK(is_joined(bujorelm_handle_tick(places_of(&l), 0xB785)) && memcmp(l.places.bytes, places, 64) == 0);
+        memset(places + 56, 0, 8);
+        CHECK(is_joined(bujorelm_handle_tick(places_of(&l), 0xB786)) && memcmp(l.places.bytes, places, 64) == 0);
 
         memset(l.frames.bytes, UNTOUCHED, l.frames.len);
         CHECK(bujorelm_cut(eight, 8, 0xDEF, 0xABC, frames_of(&l)) == 1);
@@ -442,13 +510,13 @@ static void test_empty_buffers(void)
     memset(&reception, 0, sizeof reception);
     memset(frames, 0, sizeof frames);
     memset(pool, 0, sizeof pool);
-    answer = bujorelm_handle_frame(0x22B, 0, NULL, 0, NULL, 0, NULL, 0, &lock, pool, &reception, header_of(SINGLE, 0x22B, 0x123), NULL, 0,
-                                   reply, sizeof reply, frames);
+    answer = bujorelm_handle_frame(0x22B, 0, NULL, 0, NULL, 0, NULL, 0, &lock, pool, &reception, 0, header_of(SINGLE, 0x22B, 0x123), NULL,
+                                   0, reply, sizeof reply, frames);
     CHECK(is_answer(answer, BUJORELM_REJECTED, 0, 0, 0x1080, 0));
-    answer = bujorelm_handle_frame(0x22B, 0, NULL, 0, NULL, 0, NULL, 0, &lock, pool, &reception, header_of(SINGLE, 0x22B, 0x123),
+    answer = bujorelm_handle_frame(0x22B, 0, NULL, 0, NULL, 0, NULL, 0, &lock, pool, &reception, 65535, header_of(SINGLE, 0x22B, 0x123),
                                    (const uint8_t *)"\x20\x80", 2, reply, sizeof reply, frames);
     CHECK(is_answer(answer, BUJORELM_REPLIED, 0, 0x80, 0, 7));
-    answer = bujorelm_handle_frame(0x22B, 0, NULL, 0, NULL, 0, NULL, 0, &lock, pool, &reception, 0, NULL, 0, NULL, 0, frames);
+    answer = bujorelm_handle_frame(0x22B, 0, NULL, 0, NULL, 0, NULL, 0, &lock, pool, &reception, 0, 0, NULL, 0, NULL, 0, frames);
     CHECK(is_house(answer, BUJORELM_HOUSE_B6));
     answer = bujorelm_handle_datagram(0x22B, 0, NULL, 0, NULL, 0, NULL, 0, &lock, NULL, 0, reply, sizeof reply);
     CHECK(is_answer(answer, BUJORELM_REJECTED, 0, 0, 0x1080, 0));
@@ -473,7 +541,7 @@ static void test_const_overlap(void)
 
     memset(&reception, 0, sizeof reception);
     memset(pool, 0, sizeof pool);
-    answer = bujorelm_handle_frame(0x22B, 0, table, sizeof table, bytes, sizeof table, NULL, 0, &lock, pool, &reception,
+    answer = bujorelm_handle_frame(0x22B, 0, table, sizeof table, bytes, sizeof table, NULL, 0, &lock, pool, &reception, 0,
                                    header_of(SINGLE, 0x22B, 0x123), flash, sizeof flash, reply, sizeof reply, frames);
     CHECK(is_answer(answer, BUJORELM_REPLIED, 0, 0x80, 0, 13) && memcmp(reply + 6, bytes, 7) == 0);
     answer = bujorelm_handle_datagram(0x22B, 0, NULL, 0, flash, sizeof flash, NULL, 0, &lock, flash, sizeof flash, reply, sizeof reply);
@@ -499,7 +567,8 @@ static bool print_to_sink(void *context, const struct bujorelm_frame *frame)
     return true;
 }
 
-static void test_session(void)
+/* The session with a tick in front of each frame, so many ticks behind the one before it. */
+static void play_session(uint16_t tick, uint16_t pace)
 {
     static const char *const input[] = {
         ":X1A22B123N200100000002ABCD;", ":X1B22B123N200800000002FD0F;", ":X1A22B456N20410000000202;", ":X1D22B123N5A;",
@@ -527,12 +596,23 @@ static void test_session(void)
         struct bujorelm_result answer;
 
         CHECK_CASE(line.good, input[i]);
-        CHECK_CASE(bujorelm_node_receive(&b.node, line.frame.header, line.frame.bytes, line.frame.len, print_to_sink, &sink, &answer),
-                   input[i]);
+        CHECK_CASE(
+            bujorelm_node_receive(&b.node, tick, line.frame.header, line.frame.bytes, line.frame.len, print_to_sink, &sink, &answer),
+            input[i]);
         CHECK_CASE(answer.kind == kinds[i], input[i]);
+        tick = (uint16_t)(tick + pace);
     }
     CHECK(sink.len == sizeof output - 1 && memcmp(sink.text, output, sink.len) == 0);
     board_free(&b);
+}
+
+/* Every frame with tick 0, as in the demonstration program, and as slowly as may be: its one Last comes two frames behind its First. */
+static void test_session(void)
+{
+    play_session(0, 0);
+    play_session(0, 1500);
+    play_session(65535, 1);
+    play_session(62000, 1500);
 }
 
 /* ---- Whole datagrams ---- */
@@ -897,9 +977,11 @@ static void test_result_bytes(void)
     CHECK(has_bytes(feed_hex(&b, LAST, 0x123, ""), "03000000 4020 00 00 00000000 00 00 01 FF"));
     CHECK(has_bytes(feed_hex(&b, FIRST, 0x123, ""), "02000000 0000 00 00 00000000 00 00 00 FF"));
     CHECK(has_bytes(feed(&b, 0, NULL, 0), "01000000 0000 00 00 00000000 00 00 00 FF"));
+    CHECK(has_bytes(call_tick(&b), "02000000 0000 00 00 00000000 00 00 00 FF"));
     b.node.reception.places[7].held = 1;
     b.node.reception.places[7].len = 73;
     CHECK(has_bytes(feed(&b, 0, NULL, 0), "00000000 0000 07 00 00000000 00 00 00 FF"));
+    CHECK(has_bytes(call_tick(&b), "00000000 0000 07 00 00000000 00 00 00 FF"));
     b.node.memory_len = 0;
     CHECK(has_bytes(feed(&b, 0, NULL, 0), "00000000 0000 03 00 00000000 00 00 00 00"));
     b.node.memory_len = BUJORELM_STORE_MAX;
@@ -997,10 +1079,13 @@ static void check_draft_refused_at(const struct draft *d, size_t flash_len, size
     struct board b;
 
     board_new(&b, d, flash_len, memory_len, reply_len);
-    /* The state is bad as well: B7 comes after all the others. No byte of it may change. */
+    /* The state is bad as well: B7 comes after all the others. No byte of it may change, however old some of it is. */
     for (size_t i = 0; i < BUJORELM_PLACES; i++) {
-        b.node.reception.places[i] = (struct bujorelm_place){
-            .held = (uint8_t)(i == 4 ? 0 : 0xAA + i), .len = (uint8_t)(70 + i), .source = 5, .unused = {(uint8_t)i, 2, 3, 0xFF}};
+        b.node.reception.places[i] = (struct bujorelm_place){.held = (uint8_t)(i == 4 ? 0 : 0xAA + i),
+                                                             .len = (uint8_t)(70 + i),
+                                                             .source = 5,
+                                                             .tick = (uint16_t)(b.tick - 1000 * i),
+                                                             .unused = {(uint8_t)i, 0xFF}};
     }
     b.node.lock.bytes[2] = 9;
     check_refused_at(&b, house, position, true, word);
@@ -1389,14 +1474,15 @@ static void test_place_bytes(void)
 
         board_demonstration(&b);
         places = b.node.reception.places;
-        places[2] = (struct bujorelm_place){.held = held, .len = 2, .source = 0x123, .unused = {held, 0xAA, 0x01, 0xFF}};
-        places[5] = (struct bujorelm_place){.held = held, .len = 72, .source = 0xFFF, .unused = {1, 2, 3, held}};
+        places[2] = (struct bujorelm_place){.held = held, .len = 2, .source = 0x123, .tick = b.tick, .unused = {held, 0xAA}};
+        places[5] = (struct bujorelm_place){.held = held, .len = 72, .source = 0xFFF, .tick = b.tick, .unused = {1, held}};
         memcpy(b.node.pool + 144, "\x20\xA8", 2);
         before = b.node.reception;
         CHECK(bujorelm_node_check(&b.node).kind == BUJORELM_IGNORED && same_places(&b.node.reception, &before));
         /* Ignored, and a datagram of one frame from a third tool: nothing of the places changes. */
         CHECK(feed(&b, header_of(LAST, 0x22C, 0x123), NULL, 0).kind == BUJORELM_IGNORED);
         CHECK(is_update_complete(feed_hex(&b, SINGLE, 0x456, "20A8")));
+        CHECK(is_joined(call_tick(&b)));
         CHECK(same_places(&b.node.reception, &before));
         if (held == 0) {
             CHECK(is_refusal(feed_hex(&b, LAST, 0x123, ""), 0x2040));
@@ -1412,8 +1498,8 @@ static void test_place_bytes(void)
             CHECK(same_places(&b.node.reception, &before));
         }
         /* B7 by the same byte. */
-        places[1] = (struct bujorelm_place){.held = held, .len = 73, .source = 1, .unused = {0, 0, 0, 0}};
-        places[2] = (struct bujorelm_place){.held = held, .len = 0, .source = 0x1000, .unused = {0, 0, 0, 0}};
+        places[1] = (struct bujorelm_place){.held = held, .len = 73, .source = 1};
+        places[2] = (struct bujorelm_place){.held = held, .len = 0, .source = 0x1000};
         if (held == 0) {
             CHECK(bujorelm_node_check(&b.node).kind == BUJORELM_IGNORED);
         } else {
@@ -1429,20 +1515,36 @@ static void test_place_bytes(void)
         /* Appended to, the place has canonical bytes; opened too, over whatever a free place held. */
         board_demonstration(&b);
         places = b.node.reception.places;
-        places[0] = (struct bujorelm_place){.held = 0, .len = held, .source = 0xFFFF, .unused = {held, held, held, held}};
-        places[1] = (struct bujorelm_place){.held = 3, .len = 0, .source = 0x456, .unused = {held, 0, held, 0}};
+        places[0] = (struct bujorelm_place){.held = 0, .len = held, .source = 0xFFFF, .tick = b.tick, .unused = {held, held}};
+        places[1] = (struct bujorelm_place){.held = 3, .len = 0, .source = 0x456, .tick = b.tick, .unused = {held, 0}};
         before = b.node.reception;
         CHECK(is_joined(feed_hex(&b, MIDDLE, 0x456, "2041")));
-        CHECK(follows_on(&before, &b.node.reception));
+        CHECK(follows_on(&before, &b.node.reception, b.tick));
         CHECK(places[1].held == 1 && places[1].len == 2 && places[1].source == 0x456 && is_canonical(&places[1]));
         for (uint32_t source = 1; source <= 7; source++) {
             before = b.node.reception;
             CHECK(is_joined(feed_hex(&b, FIRST, source, "20")));
-            CHECK(follows_on(&before, &b.node.reception) && !same_places(&before, &b.node.reception));
+            CHECK(follows_on(&before, &b.node.reception, b.tick) && !same_places(&before, &b.node.reception));
         }
         for (size_t i = 0; i < BUJORELM_PLACES; i++) {
-            CHECK(places[i].held == 1 && is_canonical(&places[i]));
+            CHECK(places[i].held == 1 && places[i].tick == b.tick && is_canonical(&places[i]));
         }
+
+        /* Too old, by the same byte: then the place is all zero, and the others keep every byte, that of a free one too. */
+        places[3] = (struct bujorelm_place){.held = held, .len = 5, .source = 0x321, .tick = b.tick, .unused = {held, 0x99}};
+        places[6] = (struct bujorelm_place){.held = 0, .len = held, .source = 0xFFFF, .tick = b.tick, .unused = {held, held}};
+        before = b.node.reception;
+        for (size_t i = 0; i < BUJORELM_PLACES; i++) {
+            if (i != 3 && i != 6) {
+                before.places[i].tick = places[i].tick = (uint16_t)(b.tick + 1);
+            }
+        }
+        b.tick = (uint16_t)(b.tick + 3001);
+        CHECK(is_joined(call_tick(&b)));
+        if (held != 0) {
+            memset(&before.places[3], 0, sizeof before.places[3]);
+        }
+        CHECK(same_places(&b.node.reception, &before));
         board_free(&b);
     }
 }
@@ -1582,6 +1684,381 @@ static void test_ignored(void)
     /* None of it touched the datagram that was begun. */
     CHECK(b.node.reception.places[0].held == 1 && b.node.reception.places[0].len == 2 && b.node.reception.places[0].source == 0x123);
     CHECK(feed_hex(&b, LAST, 0x123, "0000000001").kind == BUJORELM_REPLIED);
+    board_free(&b);
+}
+
+/* ---- Ticks ---- */
+
+/* The ways in which a tick reaches a datagram that another frame does not concern. */
+enum way { LONE_TICK, NO_DATAGRAM_FRAME, OWN_FRAME_IGNORED, OWN_FRAME_TOO_LONG, ANOTHER_FINISHES, ANOTHER_IS_REFUSED, WAYS };
+
+static void bring_tick(struct board *b, enum way way, uint32_t source)
+{
+    static const uint8_t data[9] = {0x20, 0xA8};
+    const uint32_t another = source ^ 0xF00;
+
+    switch (way) {
+    case LONE_TICK:
+        CHECK(is_joined(call_tick(b)));
+        break;
+    case NO_DATAGRAM_FRAME:
+        CHECK(is_answer(call_frame(b, 0, NULL, 0), BUJORELM_IGNORED, 0, 0, 0, 0));
+        break;
+    case OWN_FRAME_IGNORED:
+        CHECK(is_answer(call_frame(b, header_of(MIDDLE, 0x22C, source), data, 2), BUJORELM_IGNORED, 0, 0, 0, 0));
+        break;
+    case OWN_FRAME_TOO_LONG:
+        CHECK(is_answer(call_frame(b, header_of(MIDDLE, 0x22B, source), data, 9), BUJORELM_IGNORED, 0, 0, 0, 0));
+        break;
+    case ANOTHER_FINISHES:
+        CHECK(is_update_complete(call_frame(b, header_of(SINGLE, 0x22B, another), data, 2)));
+        break;
+    default:
+        CHECK(is_refusal(call_frame(b, header_of(LAST, 0x22B, another), data, 2), 0x2040));
+        break;
+    }
+}
+
+/* A datagram that is begun at a tick, and what has become of it at another: it is there with all its bytes, or its place is all zero. */
+static void check_kept(struct board *b, uint16_t begun, uint16_t now, enum way way, bool kept)
+{
+    const uint32_t source = 0x123;
+    struct bujorelm_reception before;
+    uint8_t pool[BUJORELM_POOL_SIZE];
+    char word[64];
+
+    snprintf(word, sizeof word, "from %u to %u, way %d", begun, now, (int)way);
+    memset(&b->node.reception, 0, sizeof b->node.reception);
+    b->tick = begun;
+    CHECK_CASE(is_joined(call_frame(b, header_of(FIRST, 0x22B, source), (const uint8_t *)"\x20", 1)), word);
+    CHECK_CASE(places_held(&b->node) == 1, word);
+    before = b->node.reception;
+    memcpy(pool, b->node.pool, sizeof pool);
+    b->tick = now;
+    bring_tick(b, way, source);
+    if (!kept) {
+        memset(&before, 0, sizeof before);
+    }
+    CHECK_CASE(same_places(&b->node.reception, &before), word);
+    CHECK_CASE(memcmp(b->node.pool, pool, sizeof pool) == 0, word);
+}
+
+/* Exactly 3,000 ticks stay and 3,001 are dropped, in every way in which a tick may come, and across 65,535 as anywhere else. */
+static void test_ages(void)
+{
+    static const uint16_t begun[] = {0, 1, 2999, 3000, 3001, 32767, 32768, 60000, 62534, 62535, 62536, 62537, 64000, 65534, 65535};
+    static const uint16_t ages[] = {0, 1, 2, 2999, 3000, 3001, 3002, 6000, 32767, 32768, 61999, 62000, 64999, 65000, 65534, 65535};
+    static const struct {
+        uint16_t begun;
+        uint16_t now;
+        bool kept;
+    } written_out[] = {
+        {0, 3000, true},      {0, 3001, false},     {0, 65535, false}, {1, 0, false},       {3000, 0, false},
+        {62535, 65535, true}, {62535, 0, false},    {62536, 0, true},  {62536, 1, false},   {64000, 1463, true},
+        {64000, 1464, true},  {64000, 1465, false}, {65535, 0, true},  {65535, 2999, true}, {65535, 3000, false},
+    };
+    struct board b;
+
+    board_demonstration(&b);
+    for (enum way way = LONE_TICK; way < WAYS; way++) {
+        for (size_t i = 0; i < sizeof begun / sizeof begun[0]; i++) {
+            for (size_t j = 0; j < sizeof ages / sizeof ages[0]; j++) {
+                check_kept(&b, begun[i], (uint16_t)((begun[i] + ages[j]) % 65536), way, ages[j] <= 3000);
+            }
+        }
+        for (size_t i = 0; i < sizeof written_out / sizeof written_out[0]; i++) {
+            check_kept(&b, written_out[i].begun, written_out[i].now, way, written_out[i].kept);
+        }
+    }
+    board_free(&b);
+}
+
+/* Every age, or each so many, from some ticks on; and the last age that stays and the first that does not, from every tick on. */
+static void test_every_age(unsigned step)
+{
+    static const uint16_t begun[] = {0, 40000, 65535};
+    struct board b;
+
+    board_demonstration(&b);
+    for (size_t i = 0; i < sizeof begun / sizeof begun[0]; i++) {
+        for (unsigned age = 0; age <= 65535; age += step) {
+            check_kept(&b, begun[i], (uint16_t)((begun[i] + age) % 65536), LONE_TICK, age <= 3000);
+            check_kept(&b, begun[i], (uint16_t)((begun[i] + age) % 65536), NO_DATAGRAM_FRAME, age <= 3000);
+        }
+    }
+    for (unsigned tick = 0; tick <= 65535; tick += step) {
+        check_kept(&b, (uint16_t)tick, (uint16_t)((tick + 3000) % 65536), LONE_TICK, true);
+        check_kept(&b, (uint16_t)tick, (uint16_t)((tick + 3001) % 65536), NO_DATAGRAM_FRAME, false);
+    }
+    board_free(&b);
+}
+
+/* A board at a tick of its own, to which 0x123 has sent the first byte of Update Complete; then so many ticks have passed. */
+static void board_begun(struct board *b, uint16_t age)
+{
+    board_demonstration(b);
+    CHECK(is_joined(feed_hex(b, FIRST, 0x123, "20")));
+    b->tick = (uint16_t)(b->tick + age);
+}
+
+/* What becomes of the next frame of a source whose datagram is 3,000 ticks old, and where it is dropped before the frame is looked at. */
+static void test_next_frame(void)
+{
+    for (int late = 0; late < 2; late++) {
+        const uint16_t age = late ? 3001 : 3000;
+        struct board b;
+
+        board_begun(&b, age);
+        CHECK(late ? is_joined(feed_hex(&b, FIRST, 0x123, "2041")) : is_refusal(feed_hex(&b, FIRST, 0x123, "2041"), 0x2040));
+        CHECK(late ? places_held(&b.node) == 1 && b.node.reception.places[0].len == 2 : nothing_unfinished(&b.node));
+        CHECK(!late || (b.node.reception.places[0].tick == b.tick && is_canonical(&b.node.reception.places[0])));
+        board_free(&b);
+
+        board_begun(&b, age);
+        CHECK(late ? is_update_complete(feed_hex(&b, SINGLE, 0x123, "20A8")) : is_refusal(feed_hex(&b, SINGLE, 0x123, "20A8"), 0x2040));
+        CHECK(nothing_unfinished(&b.node));
+        board_free(&b);
+
+        board_begun(&b, age);
+        CHECK(late ? is_refusal(feed_hex(&b, LAST, 0x123, "A8"), 0x2040) : is_update_complete(feed_hex(&b, LAST, 0x123, "A8")));
+        CHECK(nothing_unfinished(&b.node));
+        board_free(&b);
+
+        /* A Middle, and then the First that opens anew what was dropped. */
+        board_begun(&b, age);
+        CHECK(late ? is_refusal(feed_hex(&b, MIDDLE, 0x123, "A8"), 0x2040) : is_joined(feed_hex(&b, MIDDLE, 0x123, "A8")));
+        CHECK(places_held(&b.node) == (late ? 0 : 1));
+        CHECK(!late || is_joined(feed_hex(&b, FIRST, 0x123, "20A8")));
+        CHECK(is_update_complete(feed_hex(&b, LAST, 0x123, "")));
+        board_free(&b);
+
+        board_begun(&b, age);
+        CHECK(is_refusal(feed_hex(&b, MIDDLE, 0x123, ""), 0x2040) && nothing_unfinished(&b.node));
+        board_free(&b);
+    }
+}
+
+/* An accepted frame renews its source's tick, and no other frame does. */
+static void test_renewal(void)
+{
+    struct bujorelm_place *place;
+    struct board b;
+
+    /* A First, a Middle after 3,000 ticks and one after 3,000 more, and the Last after as many. */
+    board_begun(&b, 3000);
+    place = &b.node.reception.places[0];
+    CHECK(place->tick == (uint16_t)(b.tick - 3000));
+    for (int i = 0; i < 30; i++) {
+        CHECK(is_joined(feed_hex(&b, MIDDLE, 0x123, i == 0 ? "A8" : "00")) && place->tick == b.tick && is_canonical(place));
+        b.tick = (uint16_t)(b.tick + 3000);
+    }
+    CHECK(is_answer(feed_hex(&b, LAST, 0x123, ""), BUJORELM_REJECTED, 0, 0, 0x1080, 0) && nothing_unfinished(&b.node));
+    board_free(&b);
+
+    /* What comes of any other sort 3,000 ticks after the First leaves it too old a tick later. */
+    for (enum way way = LONE_TICK; way < WAYS; way++) {
+        board_begun(&b, 3000);
+        bring_tick(&b, way, 0x123);
+        CHECK(places_held(&b.node) == 1 && b.node.reception.places[0].tick == (uint16_t)(b.tick - 3000));
+        b.tick++;
+        CHECK(is_refusal(feed_hex(&b, LAST, 0x123, "A8"), 0x2040));
+        board_free(&b);
+    }
+    /* So do frames that begin, go on with and end another's datagram. */
+    board_begun(&b, 2000);
+    CHECK(is_joined(feed_hex(&b, FIRST, 0x456, "20")));
+    b.tick = (uint16_t)(b.tick + 500);
+    CHECK(is_joined(feed_hex(&b, MIDDLE, 0x456, "A8")));
+    b.tick = (uint16_t)(b.tick + 500);
+    CHECK(b.node.reception.places[0].tick == (uint16_t)(b.tick - 3000) && b.node.reception.places[1].tick == (uint16_t)(b.tick - 500));
+    CHECK(is_update_complete(feed_hex(&b, LAST, 0x456, "")) && places_held(&b.node) == 1);
+    b.tick++;
+    CHECK(is_joined(call_tick(&b)) && nothing_unfinished(&b.node));
+    board_free(&b);
+}
+
+/* Eight tools that begin a datagram and leave, ten ticks after each other. */
+static void board_abandoned(struct board *b)
+{
+    board_demonstration(b);
+    for (uint32_t source = 1; source <= 8; source++) {
+        CHECK(is_joined(feed_hex(b, FIRST, source, "20")));
+        b->tick = (uint16_t)(b->tick + 10);
+    }
+    b->tick = (uint16_t)(b->tick - 80);
+    CHECK(places_held(&b->node) == 8);
+}
+
+/* They lock a ninth out as long as the first of them is not too old, and no longer. */
+static void test_abandoned(void)
+{
+    struct bujorelm_reception before;
+    struct board b;
+
+    for (size_t too_old = 0; too_old <= 8; too_old++) {
+        board_abandoned(&b);
+        b.tick = (uint16_t)(b.tick + 2991 + 10 * too_old);
+        before = b.node.reception;
+        CHECK(too_old == 0 ? is_refusal(feed_hex(&b, FIRST, 9, "20"), 0x2020) : is_joined(feed_hex(&b, FIRST, 9, "20")));
+        CHECK(follows_on(&before, &b.node.reception, b.tick));
+        CHECK(places_held(&b.node) == (too_old == 0 ? 8 : 9 - too_old));
+        /* A refusal has renewed nothing: 10 ticks later the first of them is gone. */
+        b.tick = (uint16_t)(b.tick + 10);
+        CHECK(is_joined(call_tick(&b)));
+        CHECK(places_held(&b.node) == (too_old == 0 ? 7 : too_old == 8 ? 1 : 8 - too_old));
+        board_free(&b);
+    }
+    /* 3,000 ticks after the First of them all, and 3,001. */
+    for (uint16_t age = 3000; age <= 3001; age++) {
+        board_abandoned(&b);
+        for (size_t i = 0; i < BUJORELM_PLACES; i++) {
+            b.node.reception.places[i].tick = b.tick;
+        }
+        before = b.node.reception;
+        b.tick = (uint16_t)(b.tick + age);
+        if (age == 3000) {
+            CHECK(is_refusal(feed_hex(&b, FIRST, 9, "20"), 0x2020) && same_places(&b.node.reception, &before));
+            CHECK(is_update_complete(feed_hex(&b, LAST, 8, "A8")) && places_held(&b.node) == 7);
+        } else {
+            CHECK(is_joined(feed_hex(&b, FIRST, 9, "20")) && places_held(&b.node) == 1);
+            CHECK(is_refusal(feed_hex(&b, LAST, 8, "A8"), 0x2040) && is_update_complete(feed_hex(&b, LAST, 9, "A8")));
+        }
+        board_free(&b);
+    }
+    /* At a lone tick all eight are free at once. */
+    board_abandoned(&b);
+    b.tick = (uint16_t)(b.tick + 3071);
+    CHECK(is_joined(call_tick(&b)) && is_zero(&b.node.reception, sizeof b.node.reception));
+    board_free(&b);
+}
+
+/* A good board with eight datagrams that are too old, and with a mistake that is made on it. */
+static void check_drops_nothing(uint8_t house, uint8_t position, const char *word)
+{
+    struct draft d = draft_of_sixteen();
+    struct board b;
+
+    if (house >= 2 && house <= 5) {
+        spoil(&d, position, house);
+    }
+    d.alias = house == 14 ? 0 : d.alias;
+    board_new(&b, &d, house == 13 ? 65537 : 16, house == 12 ? 65537 : 48, house == 6 ? 71 : 72);
+    for (size_t i = 0; i < BUJORELM_PLACES; i++) {
+        b.node.reception.places[i] = (struct bujorelm_place){
+            .held = (uint8_t)(1 + i), .len = 9, .source = (uint16_t)(0x120 + i), .tick = (uint16_t)(b.tick + 1 + 8000 * i), .unused = {7, 8}};
+    }
+    b.node.description.count = house == 11 ? 17 : d.count;
+    check_refused_at(&b, house, position, true, word);
+    /* A lone tick asks nothing of the board but its state, and drops them all. */
+    CHECK_CASE(is_joined(call_tick(&b)) && is_zero(&b.node.reception, sizeof b.node.reception), word);
+    board_free(&b);
+}
+
+static void test_refused_calls_drop_nothing(void)
+{
+    static const uint8_t houses[] = {11, 12, 13, 14, 6};
+
+    for (size_t i = 0; i < sizeof houses; i++) {
+        check_drops_nothing(houses[i], NO_POSITION, "eight that are too old");
+    }
+    for (uint8_t house = 2; house <= 5; house++) {
+        check_drops_nothing(house, 1, "eight that are too old");
+        check_drops_nothing(house, 15, "eight that are too old");
+    }
+}
+
+/* The three mistakes in a state that B7 finds: at every tick, also where what is wrong is too old and would be gone. */
+static void test_ticks_of_bad_states(unsigned step)
+{
+    static const struct bujorelm_place bad[][2] = {
+        {{.held = 1, .len = 73, .source = 1, .tick = 0x8000, .unused = {1, 2}}, {.held = 0, .len = 80, .source = 5}},
+        {{.held = 2, .len = 72, .source = 4096, .tick = 0x8000, .unused = {3, 4}}, {.held = 1, .len = 72, .source = 4095}},
+        {{.held = 3, .len = 0, .source = 77, .tick = 0x8000, .unused = {5, 6}}, {.held = 9, .len = 1, .source = 77, .tick = 0x7000}},
+    };
+
+    for (size_t i = 0; i < sizeof bad / sizeof bad[0]; i++) {
+        struct bujorelm_reception before;
+        struct board b;
+
+        board_demonstration(&b);
+        memset(&before, 0, sizeof before);
+        before.places[6] = bad[i][0];
+        before.places[1] = bad[i][1];
+        b.node.reception = before;
+        for (unsigned tick = 0; tick <= 65535; tick += step) {
+            b.tick = (uint16_t)tick;
+            CHECK(is_house(call_tick(&b), BUJORELM_HOUSE_B7) && same_places(&b.node.reception, &before));
+            CHECK(is_house(call_frame(&b, 0, NULL, 0), BUJORELM_HOUSE_B7) && same_places(&b.node.reception, &before));
+        }
+        check_refused(&b, BUJORELM_HOUSE_B7, false, "a bad state");
+        board_free(&b);
+    }
+}
+
+/* Whatever tick stands in a free place, it plays no part, at any tick that comes; a First that opens the place writes its own over it. */
+static void test_ticks_of_free_places(unsigned step)
+{
+    struct bujorelm_reception before;
+    struct board b;
+
+    board_demonstration(&b);
+    for (unsigned tick = 0; tick <= 65535; tick += step) {
+        const struct bujorelm_place opened = {.held = 1, .len = 1, .source = 0x123, .tick = (uint16_t)(tick * 40503u)};
+
+        memset(&before, 0, sizeof before);
+        b.tick = opened.tick;
+        CHECK(is_joined(bujorelm_handle_tick(&before, (uint16_t)tick)) && is_zero(&before, sizeof before));
+        for (size_t i = 0; i < BUJORELM_PLACES; i++) {
+            before.places[i] = (struct bujorelm_place){
+                .len = (uint8_t)tick, .source = (uint16_t)~tick, .tick = (uint16_t)(tick + 3000 * i), .unused = {(uint8_t)i, 0xFF}};
+        }
+        b.node.reception = before;
+        CHECK(is_joined(call_tick(&b)) && same_places(&b.node.reception, &before));
+        CHECK(call_frame(&b, 0, NULL, 0).kind == BUJORELM_IGNORED && same_places(&b.node.reception, &before));
+        CHECK(is_joined(call_frame(&b, header_of(FIRST, 0x22B, 0x123), (const uint8_t *)"\x20", 1)) && places_held(&b.node) == 1);
+        for (size_t i = 0; i < BUJORELM_PLACES; i++) {
+            if (b.node.reception.places[i].held != 0) {
+                before.places[i] = opened;
+            }
+        }
+        CHECK(same_places(&b.node.reception, &before));
+    }
+    board_free(&b);
+}
+
+/* The bytes of the places: the tick least significant byte first behind the source, then zeros, in the place that a frame changes and in no
+   other. */
+static void test_tick_bytes(void)
+{
+    uint8_t expected[64] = {0};
+    struct board b;
+
+    board_demonstration(&b);
+    memset(&b.node.reception, 0, sizeof b.node.reception);
+    b.tick = 0x1234;
+    CHECK(is_joined(feed_hex(&b, FIRST, 0xABC, "2041")));
+    memcpy(expected, "\x01\x02\xBC\x0A\x34\x12\x00\x00", 8);
+    CHECK(memcmp(&b.node.reception, expected, 64) == 0);
+    b.tick = 0x12FF;
+    CHECK(is_joined(feed_hex(&b, FIRST, 0x001, "")));
+    memcpy(expected + 8, "\x01\x00\x01\x00\xFF\x12\x00\x00", 8);
+    CHECK(memcmp(&b.node.reception, expected, 64) == 0);
+    /* What means nothing is kept until the place changes. */
+    memcpy(b.node.reception.places[0].unused, "\xAA\x55", 2);
+    memcpy(b.node.reception.places[1].unused, "\x77\x88", 2);
+    memcpy(expected + 14, "\x77\x88", 2);
+    b.tick = 0x1300;
+    CHECK(is_joined(feed_hex(&b, MIDDLE, 0xABC, "000000")));
+    memcpy(expected, "\x01\x05\xBC\x0A\x00\x13\x00\x00", 8);
+    CHECK(memcmp(&b.node.reception, expected, 64) == 0);
+    /* The one is dropped and the other finished: both places are all zero. */
+    b.tick = 0x12FF + 3001;
+    CHECK(is_joined(call_tick(&b)));
+    memset(expected + 8, 0, 8);
+    CHECK(memcmp(&b.node.reception, expected, 64) == 0);
+    b.tick = 0x1300 + 3000;
+    CHECK(feed_hex(&b, LAST, 0xABC, "01").kind == BUJORELM_REJECTED);
+    CHECK(is_zero(&b.node.reception, sizeof b.node.reception));
     board_free(&b);
 }
 
@@ -1840,13 +2317,6 @@ static bool same_lines(const struct lines *a, const struct lines *b)
     return a->count == b->count;
 }
 
-static bool is_zero(const void *bytes, size_t len)
-{
-    static const uint8_t zeros[64];
-
-    return len <= sizeof zeros && memcmp(bytes, zeros, len) == 0;
-}
-
 /* Reads a chunk, which ends at a guard, and checks each step by itself. */
 static void split_chunk(struct lines *lines, struct bujorelm_carry *carry, const struct guarded *room, const uint8_t *text, size_t len)
 {
@@ -2032,7 +2502,7 @@ static void test_inline_functions(void)
     CHECK(bujorelm_source_of(0x1A22B123u) == 0x123 && bujorelm_source_of(0xFFFFFFFFu) == 0xFFF);
 
     /* A reply of 54 bytes: the transport reply, and a First, five Middles and a Last. */
-    CHECK(bujorelm_node_receive(&b.node, header_of(SINGLE, 0x22B, 0x123), read_40, sizeof read_40, keep_frame, &sink, &answer));
+    CHECK(bujorelm_node_receive(&b.node, 0, header_of(SINGLE, 0x22B, 0x123), read_40, sizeof read_40, keep_frame, &sink, &answer));
     CHECK(is_answer(answer, BUJORELM_REPLIED, 0, 0x80, 0, 54));
     CHECK(sink.count == 8 && sink.frames[0].header == 0x19A2822Bu);
     for (size_t i = 1; i < sink.count; i++) {
@@ -2045,22 +2515,22 @@ static void test_inline_functions(void)
     for (size_t room = 0; room < 8; room++) {
         sink.count = 0;
         sink.room = room;
-        CHECK(!bujorelm_node_receive(&b.node, header_of(SINGLE, 0x22B, 0x123), read_40, sizeof read_40, keep_frame, &sink, NULL));
+        CHECK(!bujorelm_node_receive(&b.node, 0, header_of(SINGLE, 0x22B, 0x123), read_40, sizeof read_40, keep_frame, &sink, NULL));
         CHECK(sink.count == room);
     }
     /* A Rejected of either sort; and what is not answered. */
     sink.count = 0;
     sink.room = 16;
-    CHECK(bujorelm_node_receive(&b.node, header_of(LAST, 0x22B, 0x123), NULL, 0, keep_frame, &sink, NULL));
+    CHECK(bujorelm_node_receive(&b.node, 0, header_of(LAST, 0x22B, 0x123), NULL, 0, keep_frame, &sink, NULL));
     CHECK(sink.count == 1 && sink.frames[0].header == 0x19A4822Bu && memcmp(sink.frames[0].bytes, "\x01\x23\x20\x40", 4) == 0);
-    CHECK(bujorelm_node_receive(&b.node, header_of(SINGLE, 0x22B, 0x123), NULL, 0, keep_frame, &sink, NULL));
+    CHECK(bujorelm_node_receive(&b.node, 0, header_of(SINGLE, 0x22B, 0x123), NULL, 0, keep_frame, &sink, NULL));
     CHECK(sink.count == 2 && memcmp(sink.frames[1].bytes, "\x01\x23\x10\x80", 4) == 0);
-    CHECK(bujorelm_node_receive(&b.node, header_of(FIRST, 0x22B, 0x123), read_40, 7, keep_frame, &sink, &answer));
+    CHECK(bujorelm_node_receive(&b.node, 0, header_of(FIRST, 0x22B, 0x123), read_40, 7, keep_frame, &sink, &answer));
     CHECK(sink.count == 2 && answer.kind == BUJORELM_JOINED);
-    CHECK(bujorelm_node_receive(&b.node, header_of(SINGLE, 0x22C, 0x123), read_40, 7, keep_frame, &sink, &answer));
+    CHECK(bujorelm_node_receive(&b.node, 0, header_of(SINGLE, 0x22C, 0x123), read_40, 7, keep_frame, &sink, &answer));
     CHECK(sink.count == 2 && answer.kind == BUJORELM_IGNORED);
     b.node.description.alias = 0;
-    CHECK(bujorelm_node_receive(&b.node, header_of(SINGLE, 0x22B, 0x123), read_40, 7, keep_frame, &sink, &answer));
+    CHECK(bujorelm_node_receive(&b.node, 0, header_of(SINGLE, 0x22B, 0x123), read_40, 7, keep_frame, &sink, &answer));
     CHECK(sink.count == 2 && is_house(answer, BUJORELM_HOUSE_B14));
     b.node.description.alias = 0x22B;
     /* The calls for a node leave their answer in it, and touch no more of it than the library's own do. */
@@ -2071,13 +2541,40 @@ static void test_inline_functions(void)
     CHECK(is_answer(answer, BUJORELM_REPLIED, 0, 0x80, 0, 7) && memcmp(b.node.reply, "\x20\x82\xE0\x00\xF2\xFF\x10", 7) == 0);
     CHECK(is_untouched(b.node.reply, 7, sizeof b.node.reply));
     CHECK(is_untouched((const uint8_t *)b.node.frames, 0, sizeof b.node.frames));
-    answer = bujorelm_node_handle_frame(&b.node, header_of(SINGLE, 0x22B, 0x124), (const uint8_t *)"\x20\x80", 2);
+    answer = bujorelm_node_handle_frame(&b.node, 0, header_of(SINGLE, 0x22B, 0x124), (const uint8_t *)"\x20\x80", 2);
     CHECK(is_answer(answer, BUJORELM_REPLIED, 0, 0x80, 0, 7) && answer.frame_count == 2);
     CHECK(b.node.frames[0].header == 0x19A2822Bu && b.node.frames[1].header == 0x1A12422Bu);
     CHECK(is_untouched((const uint8_t *)b.node.frames, 32, sizeof b.node.frames));
     /* No frame needs no sender. */
     CHECK(bujorelm_send_frames(NULL, 0, keep_frame, &sink) && sink.count == 2);
     board_free(&b);
+}
+
+/* A lone tick for a node, and a check of it, which drops nothing by any tick. */
+static void test_node_tick(void)
+{
+    for (unsigned tick = 0; tick <= 65535; tick += 101) {
+        struct bujorelm_node before;
+        struct board b;
+
+        board_begun(&b, 0);
+        b.node.reception.places[0].tick = (uint16_t)tick;
+        memset(b.node.reply, UNTOUCHED, sizeof b.node.reply);
+        memset(b.node.frames, UNTOUCHED, sizeof b.node.frames);
+        before = b.node;
+        CHECK(is_answer(bujorelm_node_check(&b.node), BUJORELM_IGNORED, 0, 0, 0, 0) && same_node(&b.node, &before));
+        CHECK(is_joined(bujorelm_node_tick(&b.node, (uint16_t)(tick + 3000))) && same_node(&b.node, &before));
+        memset(&before.reception, 0, sizeof before.reception);
+        CHECK(is_joined(bujorelm_node_tick(&b.node, (uint16_t)(tick + 3001))) && same_node(&b.node, &before));
+        b.node.reception.places[2].held = 1;
+        b.node.reception.places[2].len = 73;
+        before = b.node;
+        CHECK(is_house(bujorelm_node_tick(&b.node, (uint16_t)tick), BUJORELM_HOUSE_B7) && same_node(&b.node, &before));
+        CHECK(is_house(bujorelm_node_check(&b.node), BUJORELM_HOUSE_B7) && same_node(&b.node, &before));
+        CHECK(is_untouched(b.node.reply, 0, sizeof b.node.reply));
+        CHECK(is_untouched((const uint8_t *)b.node.frames, 0, sizeof b.node.frames));
+        board_free(&b);
+    }
 }
 
 /* A fresh node, whatever lay there before. */
@@ -2195,9 +2692,11 @@ static void test_version(void)
 
 /* ---- Pseudo-random calls ---- */
 
-/* A book of one source, as document 01 describes it: what that source's frames alone say is unfinished. */
+/* A book of one source, as document 01 and C-14 describe it: what that source's frames and the times of all calls say is unfinished. Times
+   count on past 65,535. */
 struct book {
     bool held;
+    uint64_t last;
     size_t len;
     uint8_t bytes[72];
 };
@@ -2383,7 +2882,8 @@ struct expected {
 };
 
 /* What the books say of a frame. `others` is how many of the other sources have a datagram unfinished. */
-static struct expected book_step(struct book *book, size_t others, uint16_t alias, uint32_t header, const uint8_t *data, size_t len)
+static struct expected book_step(struct book *book, uint64_t time, size_t others, uint16_t alias, uint32_t header, const uint8_t *data,
+                                 size_t len)
 {
     struct expected e = {.kind = BUJORELM_IGNORED};
     const uint32_t top = header >> 24;
@@ -2405,6 +2905,7 @@ static struct expected book_step(struct book *book, size_t others, uint16_t alia
         } else {
             e.kind = BUJORELM_JOINED;
             book->held = true;
+            book->last = time;
             book->len = len;
             memcpy(book->bytes, data, len);
         }
@@ -2414,6 +2915,7 @@ static struct expected book_step(struct book *book, size_t others, uint16_t alia
             book->held = false;
         } else {
             memcpy(book->bytes + book->len, data, len);
+            book->last = time;
             book->len += len;
             e.kind = BUJORELM_JOINED;
             if (top == LAST) {
@@ -2439,13 +2941,50 @@ static bool state_has(const struct bujorelm_node *node, uint16_t source, const s
 
         if (p->held != 0 && p->source == source) {
             found++;
-            if (!book->held || p->len != book->len || memcmp(node->pool + 72 * i, book->bytes, book->len) != 0) {
+            if (!book->held || p->len != book->len || p->tick != (uint16_t)book->last ||
+                memcmp(node->pool + 72 * i, book->bytes, book->len) != 0) {
                 return false;
             }
         }
     }
     return found == (book->held ? 1 : 0);
 }
+
+/* Every book hears the time of every call: what is too old is dropped. Returns how many were. */
+static size_t books_hear(struct book *books, uint64_t time)
+{
+    size_t dropped = 0;
+
+    for (size_t i = 0; i < SOURCES; i++) {
+        if (books[i].held && time - books[i].last > 3000) {
+            books[i].held = false;
+            dropped++;
+        }
+    }
+    return dropped;
+}
+
+/* How many ticks pass before a call, always fewer than 62,000. Some sessions go so fast that nothing grows old, and some so slowly that most
+   does. */
+static uint32_t random_ticks(uint32_t pace)
+{
+    static const uint16_t some[] = {0, 1, 1500, 2999, 3000, 3001, 3002, 6000, 32768, 58999, 61998, 61999};
+
+    switch (pace) {
+    case 0:
+        return 0;
+    case 1:
+        return random_below(60);
+    case 2:
+        return random_below(600);
+    default:
+        return random_below(4) != 0 ? random_below(400) : some[random_below(sizeof some / sizeof some[0])];
+    }
+}
+
+/* How often a datagram was dropped for its age: before a frame, and at a lone tick. */
+static unsigned long drops_at_frames;
+static unsigned long drops_at_ticks;
 
 /* How often each answer came, so that random frames that stopped short of one would show. */
 static unsigned long kinds_seen[BUJORELM_UPDATE_COMPLETE + 1];
@@ -2483,8 +3022,23 @@ static void random_places(struct bujorelm_reception *reception)
             if (p->held == 0) {
                 p->len = (uint8_t)random_number();
                 p->source = (uint16_t)random_number();
+                p->tick = (uint16_t)random_number();
             }
         }
+    }
+}
+
+/* A lone tick: the places are those of the books, and nothing else of the node has changed. */
+static void random_tick(struct board *b, struct book *books, uint64_t time)
+{
+    struct bujorelm_node expected = b->node;
+
+    b->tick = (uint16_t)time;
+    expected.reception = kept_at(&b->node.reception, b->tick);
+    drops_at_ticks += books_hear(books, time);
+    CHECK(is_joined(call_tick(b)) && same_node(&b->node, &expected));
+    for (size_t i = 0; i < SOURCES; i++) {
+        CHECK(state_has(&b->node, aliases[i], &books[i]));
     }
 }
 
@@ -2494,6 +3048,8 @@ static void random_session(unsigned long frames)
     size_t memory_len;
     const struct draft d = random_draft(&flash_len, &memory_len);
     const size_t reply_len = random_below(20) == 0 ? random_below(72) : 72 + random_below(3);
+    const uint32_t pace = random_below(4);
+    uint64_t time = random_number();
     struct board b;
     struct book books[SOURCES];
     struct sender senders[SOURCES];
@@ -2530,6 +3086,12 @@ static void random_session(unsigned long frames)
         size_t written = 0;
 
         random_places(&b.node.reception);
+        if (random_below(8) == 0) {
+            time += random_ticks(pace);
+            random_tick(&b, books, time);
+        }
+        time += random_ticks(pace);
+        b.tick = (uint16_t)time;
         before = b.node;
         memset(b.reply.bytes, UNTOUCHED, reply_len);
         if (len <= 8) {
@@ -2539,7 +3101,6 @@ static void random_session(unsigned long frames)
         see(answer, b.reply.bytes);
 
         CHECK(memcmp(b.flash.bytes, flash, flash_len) == 0);
-        CHECK(follows_on(&before.reception, &b.node.reception));
         if (refused.kind == BUJORELM_REFUSED) {
             CHECK(is_house_at(answer, refused.house, refused.position));
             CHECK(same_places(&b.node.reception, &before.reception));
@@ -2549,6 +3110,8 @@ static void random_session(unsigned long frames)
             struct book stranger = {.held = false};
             struct book *book = &stranger;
 
+            CHECK(follows_on(&before.reception, &b.node.reception, b.tick));
+            drops_at_frames += books_hear(books, time);
             for (size_t i = 0; i < SOURCES; i++) {
                 if (aliases[i] == (header & 0xFFF)) {
                     book = &books[i];
@@ -2556,7 +3119,7 @@ static void random_session(unsigned long frames)
                     others++;
                 }
             }
-            e = book_step(book, others, d.alias, header, data, len);
+            e = book_step(book, time, others, d.alias, header, data, len);
             CHECK(!stranger.held);
             if (!e.finished) {
                 CHECK(is_answer(answer, e.kind, 0, 0, e.kind == BUJORELM_TRANSPORT_REFUSAL ? e.code : 0, 0));
@@ -2597,7 +3160,9 @@ static void random_session(unsigned long frames)
                 CHECK(state_has(&b.node, aliases[i], &books[i]));
             }
             if (e.kind == BUJORELM_IGNORED) {
-                CHECK(same_places(&b.node.reception, &before.reception));
+                const struct bujorelm_reception kept = kept_at(&before.reception, b.tick);
+
+                CHECK(same_places(&b.node.reception, &kept));
                 CHECK(memcmp(b.node.pool, before.pool, sizeof before.pool) == 0);
             }
         }
@@ -2612,6 +3177,8 @@ static void random_session(unsigned long frames)
 int main(int argc, char **argv)
 {
     const unsigned long frames = argc > 1 ? strtoul(argv[1], NULL, 10) : 100000;
+    /* With few random frames, of the tests that go through all ticks or ages only a part is made. */
+    const unsigned step = frames < 100000 ? 257 : 1;
 
     test_layout();
     test_empty_buffers();
@@ -2632,6 +3199,15 @@ int main(int argc, char **argv)
     test_place_bytes();
     test_transport_refusals();
     test_ignored();
+    test_ages();
+    test_every_age(step);
+    test_next_frame();
+    test_renewal();
+    test_abandoned();
+    test_refused_calls_drop_nothing();
+    test_ticks_of_bad_states(step);
+    test_ticks_of_free_places(step);
+    test_tick_bytes();
     test_cutting();
     test_transport_replies();
     test_lines();
@@ -2640,6 +3216,7 @@ int main(int argc, char **argv)
     test_carries();
     test_line_bytes();
     test_inline_functions();
+    test_node_tick();
     test_node_start();
     test_accessors();
     test_position_of();
@@ -2655,6 +3232,7 @@ int main(int argc, char **argv)
         for (size_t i = 0; i < 9; i++) {
             CHECK(codes_seen[i] >= 10);
         }
+        CHECK(drops_at_frames >= 100 && drops_at_ticks >= 100);
     }
     return check_result("library");
 }

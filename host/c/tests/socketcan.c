@@ -1,16 +1,44 @@
 /*
- * A test of example/socketcan.c on a pair of sockets in the place of a CAN interface: the flags of can_id, what is sent, and that what a
- * write changed is stored before the tool hears of it.
+ * A test of example/socketcan.c on a pair of sockets in the place of a CAN interface: the flags of can_id, what is sent, that what a write
+ * changed is stored before the tool hears of it, and, on a clock that the test sets, when an unfinished datagram is dropped.
  */
 int example_main(int argc, char **argv);
 #define main example_main
+#define clock_gettime set_clock
 #include "example/socketcan.c"
+#undef clock_gettime
 #undef main
 
 #include "check.h"
 
-#include <poll.h>
 #include <sys/wait.h>
+
+/* The clock of the board's process, in milliseconds, and how often it was read. Both processes see it. */
+static volatile struct {
+    uint64_t time;
+    unsigned reads;
+} *board_clock;
+
+int set_clock(clockid_t id, struct timespec *t)
+{
+    const uint64_t now = board_clock->time;
+
+    if (id != CLOCK_MONOTONIC) {
+        return -1;
+    }
+    t->tv_sec = (time_t)(now / 1000);
+    t->tv_nsec = (long)(now % 1000) * 1000000 + 999999;
+    board_clock->reads++;
+    return 0;
+}
+
+static void start_clock(void)
+{
+    board_clock = mmap(NULL, sizeof *board_clock, PROT_READ | PROT_WRITE, MAP_SHARED | MAP_ANONYMOUS, -1, 0);
+    if (board_clock == MAP_FAILED) {
+        give_up("mmap");
+    }
+}
 
 static struct can_frame frame_of(uint32_t can_id, const char *hex)
 {
@@ -130,10 +158,86 @@ static void test_failing_store(void)
     served_end(served);
 }
 
+/* Sends a frame and expects the data of one that answers it. */
+static void ask(struct served served, uint32_t header, const char *hex, const char *answer)
+{
+    const struct can_frame expected = frame_of(0, answer);
+    struct can_frame frame = {.can_dlc = 0};
+
+    send_to(served, header | CAN_EFF_FLAG, hex);
+    CHECK_CASE(receive(served.bus, &frame) && frame.can_dlc == expected.can_dlc, answer);
+    CHECK_CASE(memcmp(frame.data, expected.data, sizeof frame.data) == 0, answer);
+}
+
+static const char finished[] = "012300";
+static const char out_of_order[] = "01232040";
+
+/* The First of a datagram. Behind it comes what is answered, so that the board has taken the First when this is back. */
+static void begin(struct served served, uint64_t time)
+{
+    board_clock->time = time;
+    send_to(served, 0x1B22B123u | CAN_EFF_FLAG, "20");
+    ask(served, 0x1A22B456u, "20A8", "045600");
+}
+
+/* The Last of it. */
+static void end(struct served served, uint64_t time, const char *answer)
+{
+    board_clock->time = time;
+    ask(served, 0x1D22B123u, "A8", answer);
+}
+
+/* Waits until the board reads its clock, for ten seconds at most: on a quiet bus, or on one that is full of frames that no board is interested
+   in. */
+static bool reads_clock(struct served served, bool quiet)
+{
+    const struct timespec pause = {.tv_nsec = 1000000};
+    const unsigned reads = board_clock->reads;
+
+    for (unsigned waited = 0; waited < 10000 && board_clock->reads == reads; waited++) {
+        if (!quiet) {
+            send_to(served, 0x1B22B123u | CAN_EFF_FLAG | CAN_RTR_FLAG, "");
+        }
+        (void)nanosleep(&pause, NULL);
+    }
+    return board_clock->reads != reads;
+}
+
+/* The tick alone, at a time at which the datagram is too old. Then the clock is put back: by the tick of the Last it is not. */
+static void check_lone_tick(struct served served, bool quiet)
+{
+    begin(served, 5000);
+    board_clock->time = 8001;
+    CHECK(reads_clock(served, quiet));
+    end(served, 5001, out_of_order);
+}
+
+static void test_ticks(void)
+{
+    const struct served served = serve_apart(-1);
+
+    begin(served, 0);
+    end(served, 0, finished);
+    begin(served, 1000);
+    end(served, 4000, finished);
+    begin(served, 10000);
+    end(served, 13001, out_of_order);
+    /* The count goes round: from 65,535 to 0. */
+    begin(served, 65000);
+    end(served, 68000, finished);
+    begin(served, 131000);
+    end(served, 134001, out_of_order);
+    check_lone_tick(served, false);
+    check_lone_tick(served, true);
+    served_end(served);
+}
+
 int main(void)
 {
+    start_clock();
     test_headers();
     test_serving();
     test_failing_store();
+    test_ticks();
     return check_result("socketcan");
 }

@@ -17,6 +17,7 @@ struct subject subject;
 
 enum {
     HANDLE_FRAME,
+    HANDLE_TICK,
     HANDLE_DATAGRAM,
     CUT,
     RECEIVED_OK,
@@ -36,6 +37,7 @@ static const struct {
     void (*call)(void);
 } calls[CALLS] = {
     {"bujorelm_handle_frame", call_handle_frame},
+    {"bujorelm_handle_tick", call_handle_tick},
     {"bujorelm_handle_datagram", call_handle_datagram},
     {"bujorelm_cut", call_cut},
     {"bujorelm_received_ok", call_received_ok},
@@ -145,6 +147,38 @@ static void make_datagram(uint8_t command)
     subject.datagram_len = len;
 }
 
+/* Fills the eight places, each with a tick of its own. */
+static void fill_places(void)
+{
+    for (size_t i = 0; i < BUJORELM_PLACES; i++) {
+        subject.node.reception.places[i] =
+            (struct bujorelm_place){.held = 1, .len = (uint8_t)(8 * i), .source = (uint16_t)(0x200 + i), .tick = (uint16_t)(500 * i)};
+    }
+}
+
+/* Lone ticks, and frames of every sort: with none, some and all of eight datagrams too old, and with a state that is refused. */
+static void measure_ticks(void)
+{
+    for (unsigned tick = 0; tick <= 0xFFFF; tick += 250) {
+        subject.tick = (uint16_t)tick;
+        fill_places();
+        measure(HANDLE_TICK);
+        for (uint32_t top = 0x1A; top <= 0x1D; top++) {
+            fill_places();
+            subject.frame.header = top << 24 | (uint32_t)subject.node.description.alias << 12 | (0x200 + tick % 9);
+            subject.frame.len = tick % 9;
+            measure(HANDLE_FRAME);
+            fill_places();
+            measure(NODE_RECEIVE);
+        }
+        fill_places();
+        measure(NODE_CHECK);
+        subject.node.reception.places[7].len = 73;
+        measure(HANDLE_TICK);
+        subject.node.reception = (struct bujorelm_reception){.places = {{.held = 0}}};
+    }
+}
+
 /* Measures every call along the way of one datagram through the board. */
 static void walk(bool lines)
 {
@@ -204,6 +238,7 @@ int main(int argc, char **argv)
             measure(NODE_RECEIVE);
         }
     }
+    measure_ticks();
     for (size_t i = 0; i < CALLS; i++) {
         printf("stack: %-4s %-26s %5zu bytes\n", level, calls[i].name, most[i]);
         CHECK_CASE(most[i] <= BOUND, calls[i].name);

@@ -13,6 +13,7 @@ struct subject {
     uint8_t text[BUJORELM_PRINTED_MAX];
     uint8_t datagram[80];
     size_t datagram_len;
+    uint16_t tick;
     struct bujorelm_frame frame;
     struct bujorelm_frame frames[BUJORELM_SENT_MAX];
     struct bujorelm_result answer;
@@ -28,6 +29,7 @@ struct subject {
 extern struct subject subject;
 
 void call_handle_frame(void);
+void call_handle_tick(void);
 void call_handle_datagram(void);
 void call_cut(void);
 void call_received_ok(void);

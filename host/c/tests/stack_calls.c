@@ -9,8 +9,13 @@ void call_handle_frame(void)
     subject.answer = bujorelm_handle_frame(subject.node.description.alias, subject.node.description.write_lengths,
                                            subject.node.description.spaces, 16 * subject.node.description.count, subject.flash,
                                            sizeof subject.flash, subject.memory, sizeof subject.memory, &subject.node.lock,
-                                           subject.node.pool, &subject.node.reception, subject.frame.header, subject.frame.bytes,
-                                           subject.frame.len, subject.reply, sizeof subject.reply, subject.frames);
+                                           subject.node.pool, &subject.node.reception, subject.tick, subject.frame.header,
+                                           subject.frame.bytes, subject.frame.len, subject.reply, sizeof subject.reply, subject.frames);
+}
+
+void call_handle_tick(void)
+{
+    subject.answer = bujorelm_handle_tick(&subject.node.reception, subject.tick);
 }
 
 void call_handle_datagram(void)
@@ -77,5 +82,6 @@ static bool take(void *context, const struct bujorelm_frame *frame)
 
 void call_node_receive(void)
 {
-    (void)bujorelm_node_receive(&subject.node, subject.frame.header, subject.frame.bytes, subject.frame.len, take, NULL, NULL);
+    (void)bujorelm_node_receive(&subject.node, subject.tick, subject.frame.header, subject.frame.bytes, subject.frame.len, take, NULL,
+                                NULL);
 }

@@ -581,7 +581,7 @@ static enum bujorelm_joined_kind kind_for(struct bujorelm_result result, uint32_
     }
 }
 
-/* A tool joins as a board does: a board with the tool's alias is fed the same frames. */
+/* A tool joins as a board does: a board with the tool's alias is fed the same frames, with the tick 0 that every frame has for a tool. */
 static void random_joins(unsigned long count)
 {
     static struct bujorelm_node board;
@@ -600,7 +600,7 @@ static void random_joins(unsigned long count)
 
         random_bytes(data.bytes, data.len);
         guarded_read_only(&data);
-        result = bujorelm_node_handle_frame(&board, header, data.bytes, data.len);
+        result = bujorelm_node_handle_frame(&board, 0, header, data.bytes, data.len);
         joined = join(&l, header, data.bytes, data.len);
         CHECK(is_joined(joined, kind_for(result, header), result.kind == BUJORELM_TRANSPORT_REFUSAL ? result.code : 0));
         CHECK(memcmp(&board.reception, l.reception.bytes, l.reception.len) == 0 && memcmp(board.pool, l.pool.bytes, l.pool.len) == 0);

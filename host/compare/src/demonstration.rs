@@ -53,8 +53,14 @@ impl Demonstration {
         }
     }
 
-    /// Hands a frame in. The frames that are sent for it are the next thing to ask for.
+    /// Hands a frame in as the demonstration program does, which has no tick but 0. The frames that
+    /// are sent for it are the next thing to ask for.
     pub fn frame(&mut self, header: u32, data: &[u8]) -> Numbers {
+        self.frame_at(0, header, data)
+    }
+
+    /// Hands a frame in that comes at this tick.
+    pub fn frame_at(&mut self, tick: u16, header: u32, data: &[u8]) -> Numbers {
         ffi::handle_frame(
             ALIAS,
             WRITE_LENGTHS,
@@ -64,11 +70,22 @@ impl Demonstration {
             &mut self.lock,
             &mut self.pool,
             &mut self.places,
+            tick,
             header,
             data,
             &mut self.reply,
             &mut self.frames,
         )
+    }
+
+    /// Hands a tick in that comes alone.
+    pub fn tick(&mut self, tick: u16) -> Numbers {
+        ffi::handle_tick(&mut self.places, tick)
+    }
+
+    /// The places.
+    pub const fn places(&mut self) -> &mut Places {
+        &mut self.places
     }
 
     /// The first so many frames of those that the last call for a frame has made.

@@ -124,7 +124,7 @@ pub struct Wrong {
 pub fn is_damaged(places: &Places) -> bool {
     let at = |index| held(place(places, index));
     (0..PLACES).any(|index| {
-        at(index).is_some_and(|Held { len, source }| {
+        at(index).is_some_and(|Held { len, source, .. }| {
             usize::from(len) > PLACE_BYTES
                 || source > LAST_ALIAS
                 || (0..index).any(|other| at(other).is_some_and(|other| other.source == source))
@@ -220,11 +220,11 @@ mod tests {
         for _ in 0..2_000 {
             let mut board = good_board(&mut random);
             let tools = tools(&mut random, &board);
-            let mut places = sound_places(&mut random, &tools);
+            let mut places = sound_places(&mut random, &tools, 0, u16::MAX);
             assert!(!is_damaged(&places));
             damage_places(&mut random, &mut places);
             assert!(is_damaged(&places));
-            assert!(for_model(&places, &[0; 576]).check().is_err());
+            assert!(for_model(&places, &[0; 576], 0).check().is_err());
             assert_eq!(Faults::of(&board).refusal(), None);
             spoil_board(&mut random, &mut board);
             let checked =

@@ -33,7 +33,7 @@ pub const SENT_SIZE: usize = MOST_SENT * FRAME_SIZE;
 pub const CARRY_SIZE: usize = 29;
 /// The version of the edge that this module is written for: major in the upper 16 bits, minor in
 /// the lower 16.
-pub const VERSION: u32 = 0x0003_0000;
+pub const VERSION: u32 = 0x0004_0000;
 /// In the place of a position where there is none. It is not 0, which is the first space's.
 pub const NO_POSITION: u8 = 255;
 
@@ -177,6 +177,7 @@ extern "C" {
         lock: *mut u8,
         pool: *mut u8,
         places: *mut u8,
+        tick: u16,
         header: u32,
         payload: *const u8,
         payload_len: usize,
@@ -184,6 +185,7 @@ extern "C" {
         reply_len: usize,
         frames: *mut u8,
     ) -> Numbers;
+    fn bujorelm_handle_tick(places: *mut u8, tick: u16) -> Numbers;
     fn bujorelm_handle_datagram(
         alias: u16,
         write_lengths: u8,
@@ -221,7 +223,7 @@ pub fn version() -> u32 {
     unsafe { bujorelm_version() }
 }
 
-/// Handles a frame, and makes the frames that are sent for it.
+/// Handles a frame that comes at this tick, and makes the frames that are sent for it.
 #[expect(
     clippy::too_many_arguments,
     reason = "everything the board has is lent, each thing by itself"
@@ -236,6 +238,7 @@ pub fn handle_frame(
     lock: &mut Lock,
     pool: &mut Pool,
     places: &mut Places,
+    tick: u16,
     header: u32,
     payload: &[u8],
     reply: &mut [u8],
@@ -256,6 +259,7 @@ pub fn handle_frame(
             lock.as_mut_ptr(),
             pool.as_mut_ptr(),
             places.as_mut_ptr(),
+            tick,
             header,
             payload.as_ptr(),
             payload.len(),
@@ -264,6 +268,13 @@ pub fn handle_frame(
             frames.as_mut_ptr(),
         )
     }
+}
+
+/// Handles a tick that comes alone.
+#[inline]
+pub fn handle_tick(places: &mut Places, tick: u16) -> Numbers {
+    // SAFETY: the places have their one size and are lent to nobody else.
+    unsafe { bujorelm_handle_tick(places.as_mut_ptr(), tick) }
 }
 
 /// Handles a datagram that is handed over whole.

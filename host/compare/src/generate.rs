@@ -4,6 +4,7 @@
 use crate::ffi::{Places, MOST_SPACES, PLACES, PLACES_SIZE, PLACE_BYTES, SPACE_SIZE};
 use crate::layout::{any_place, held, place, set_place, spaces_in, table_of, Held};
 use crate::random::Random;
+use crate::times::{any_age, GREATEST_AGE};
 use model::Space;
 
 // The limits of document 01. They are not taken from the model: one that had them wrong would get
@@ -756,25 +757,68 @@ pub fn tools(random: &mut Random, board: &Board) -> Vec<Tool> {
     tools
 }
 
-/// Places with some of these tools in them, so that B7 lets them pass; the free ones hold
-/// anything.
-pub fn sound_places(random: &mut Random, tools: &[Tool]) -> Places {
+/// Places with some of these tools in them, so that B7 lets them pass, at most so old at this tick;
+/// the free ones hold anything.
+pub fn sound_places(random: &mut Random, tools: &[Tool], tick: u16, oldest: u16) -> Places {
     let mut places = [0; PLACES_SIZE];
     let mut next = 0;
     for index in 0..PLACES {
         let mut what = None;
         if next < tools.len() && random.once_in(3) {
-            let len = match random.below(4) {
-                0 => random.pick(&[0, 1, 64, 71, 72]),
-                _ => random.between(0, PLACE_BYTES) as u8,
-            };
-            let source = tools[next].source;
-            what = Some(Held { len, source });
+            let age = any_age(random, oldest);
+            what = Some(any_held(random, tools[next].source, tick, age));
             next += 1;
         }
         set_place(&mut places, index, any_place(random, what));
     }
     places
+}
+
+/// A datagram of this source of any length, so old at this tick.
+pub fn any_held(random: &mut Random, source: u16, tick: u16, age: u16) -> Held {
+    let len = match random.below(4) {
+        0 => random.pick(&[0, 1, 64, 71, 72]),
+        _ => random.between(0, PLACE_BYTES) as u8,
+    };
+    Held {
+        len,
+        source,
+        tick: tick.wrapping_sub(age),
+    }
+}
+
+/// Places that B7 lets pass, with datagrams of any age at this tick, as only a caller with a long
+/// pause has them: often eight, of these tools and of others, and at times all of them due.
+pub fn old_places(random: &mut Random, tools: &[Tool], tick: u16) -> Places {
+    let mut places = [0; PLACES_SIZE];
+    let mut sources: Vec<u16> = Vec::with_capacity(PLACES);
+    let first = random.below(tools.len());
+    let youngest = random.pick(&[0, 0, 0, GREATEST_AGE + 1]);
+    let often = random.between(1, 3);
+    for index in 0..PLACES {
+        let mut what = None;
+        if often == 3 || !random.once_in(often + 1) {
+            let mut source = tools[(first + index) % tools.len()].source;
+            while sources.contains(&source) {
+                source = random.below(usize::from(LAST_ALIAS) + 1) as u16;
+            }
+            sources.push(source);
+            let age = any_age(random, u16::MAX).max(youngest);
+            what = Some(any_held(random, source, tick, age));
+        }
+        set_place(&mut places, index, any_place(random, what));
+    }
+    places
+}
+
+/// A datagram frame to this board from this source, of any kind.
+pub fn any_frame(random: &mut Random, board: &Board, source: u16) -> Incoming {
+    let kind = random.pick(&[SINGLE, FIRST, MIDDLE, LAST]);
+    let length = piece(random);
+    Incoming {
+        header: kind << 24 | u32::from(board.alias & 0xFFF) << 12 | u32::from(source),
+        data: random.bytes(length),
+    }
 }
 
 /// Other bytes for places that hold the same, as a caller may leave them between two calls.
@@ -794,6 +838,7 @@ pub fn damage_places(random: &mut Random, places: &mut Places) {
     let free = Held {
         len: random.below(PLACE_BYTES + 1) as u8,
         source: random.below(0x1000) as u16,
+        tick: random.half(),
     };
     let mut damaged = held(place(places, index)).unwrap_or(free);
     let mut twin = held(place(places, other)).unwrap_or(free);
@@ -869,6 +914,7 @@ pub fn line(random: &mut Random) -> Vec<u8> {
 mod tests {
     use super::*;
     use crate::setup::for_model;
+    use crate::times::age;
 
     #[test]
     fn a_good_board_is_good_and_damaged_places_are_not() {
@@ -880,16 +926,39 @@ mod tests {
             assert_eq!(checked, Ok(()), "{board:?}");
             assert_eq!(board.spaces, spaces_in(&board.table));
             let tools = tools(&mut random, &board);
-            let mut places = sound_places(&mut random, &tools);
+            let (tick, oldest) = (random.half(), random.half());
+            let mut places = sound_places(&mut random, &tools, tick, oldest);
             let before: Vec<_> = (0..PLACES).map(|at| held(place(&places, at))).collect();
+            assert!(before
+                .iter()
+                .flatten()
+                .all(|&held| age(held, tick) <= oldest));
             rewrite_places(&mut random, &mut places);
             let after: Vec<_> = (0..PLACES).map(|at| held(place(&places, at))).collect();
             assert_eq!(before, after);
-            assert_eq!(for_model(&places, &[0; 576]).check(), Ok(()));
+            assert_eq!(for_model(&places, &[0; 576], 70_000).check(), Ok(()));
             damage_places(&mut random, &mut places);
-            assert!(for_model(&places, &[0; 576]).check().is_err());
+            assert!(for_model(&places, &[0; 576], 70_000).check().is_err());
             spoil_board(&mut random, &mut board);
             assert_eq!(board.spaces, spaces_in(&board.table));
         }
+    }
+
+    #[test]
+    fn old_places_are_sound_and_of_any_age() {
+        let mut random = Random::new(4);
+        let (mut full, mut all_due) = (0, 0);
+        for _ in 0..2_000 {
+            let board = good_board(&mut random);
+            let tools = tools(&mut random, &board);
+            let tick = random.half();
+            let places = old_places(&mut random, &tools, tick);
+            assert_eq!(for_model(&places, &[0; 576], 70_000).check(), Ok(()));
+            let due = |at| held(place(&places, at)).map(|held| age(held, tick) > 3_000);
+            let dues: Vec<_> = (0..PLACES).filter_map(due).collect();
+            full += usize::from(dues.len() == PLACES);
+            all_due += usize::from(dues == [true; PLACES]);
+        }
+        assert!(full > all_due && all_due > 100, "{full}, {all_due}");
     }
 }

@@ -94,6 +94,47 @@ pub struct Held {
     pub len: u8,
     /// The alias of the tool.
     pub source: u16,
+    /// The tick of its last accepted frame.
+    pub tick: u16,
+}
+
+/// An unfinished datagram, whichever side has it.
+#[derive(Clone, Copy, Debug, PartialEq, Eq, PartialOrd, Ord)]
+pub struct Entry<'p> {
+    /// The alias of the tool.
+    pub source: u16,
+    /// How many bytes are joined so far.
+    pub length: usize,
+    /// These bytes, but never over 72.
+    pub bytes: &'p [u8],
+    /// The tick of its source's last accepted frame.
+    pub tick: u16,
+}
+
+impl<'p> Entry<'p> {
+    /// As the model has it at this time, to which the tick is the latest of its kind. A time before
+    /// the first, which only a state that is refused can have, is one at the end of all times.
+    #[must_use]
+    pub const fn for_model(self, time: u64) -> Unfinished<'p> {
+        let age = (time as u16).wrapping_sub(self.tick);
+        Unfinished {
+            source: self.source,
+            length: self.length,
+            bytes: self.bytes,
+            last_accepted: time.wrapping_sub(age as u64),
+        }
+    }
+}
+
+impl<'p> From<Unfinished<'p>> for Entry<'p> {
+    fn from(unfinished: Unfinished<'p>) -> Self {
+        Self {
+            source: unfinished.source,
+            length: unfinished.length,
+            bytes: unfinished.bytes,
+            tick: unfinished.last_accepted as u16,
+        }
+    }
 }
 
 /// The bytes of a place.
@@ -110,23 +151,25 @@ pub fn set_place(places: &mut Places, index: usize, bytes: [u8; PLACE_SIZE]) {
 }
 
 /// What the place with these bytes holds, if anything: held where its first byte is not 0, then
-/// the length, then the source with its least significant byte first. The last four bytes mean
-/// nothing.
+/// the length, then the source and the tick, each with its least significant byte first. The last
+/// two bytes mean nothing.
 #[must_use]
 pub fn held(bytes: [u8; PLACE_SIZE]) -> Option<Held> {
-    let [held, len, low, high, ..] = bytes;
+    let [held, len, low, high, tick_low, tick_high, ..] = bytes;
     (held != 0).then_some(Held {
         len,
         source: u16::from_le_bytes([low, high]),
+        tick: u16::from_le_bytes([tick_low, tick_high]),
     })
 }
 
 /// The bytes that a place has after a call that changed it.
 #[must_use]
 pub fn canonical(held: Option<Held>) -> [u8; PLACE_SIZE] {
-    held.map_or([0; PLACE_SIZE], |Held { len, source }| {
+    held.map_or([0; PLACE_SIZE], |Held { len, source, tick }| {
         let [low, high] = source.to_le_bytes();
-        [1, len, low, high, 0, 0, 0, 0]
+        let [tick_low, tick_high] = tick.to_le_bytes();
+        [1, len, low, high, tick_low, tick_high, 0, 0]
     })
 }
 
@@ -135,25 +178,24 @@ pub fn canonical(held: Option<Held>) -> [u8; PLACE_SIZE] {
 pub fn any_place(random: &mut Random, held: Option<Held>) -> [u8; PLACE_SIZE] {
     let mut bytes = random.number().to_le_bytes();
     bytes[0] = flag(random, held.is_some());
-    if let Some(Held { len, source }) = held {
+    if let Some(Held { len, source, tick }) = held {
         bytes[1] = len;
         [bytes[2], bytes[3]] = source.to_le_bytes();
+        [bytes[4], bytes[5]] = tick.to_le_bytes();
     }
     bytes
 }
 
 /// The unfinished datagrams in the places, in their order.
-pub fn unfinished<'p>(
-    places: &'p Places,
-    pool: &'p [u8],
-) -> impl Iterator<Item = Unfinished<'p>> + 'p {
+pub fn unfinished<'p>(places: &'p Places, pool: &'p [u8]) -> impl Iterator<Item = Entry<'p>> + 'p {
     (0..PLACES).filter_map(move |index| {
-        let Held { len, source } = held(place(places, index))?;
+        let Held { len, source, tick } = held(place(places, index))?;
         let length = usize::from(len);
-        Some(Unfinished {
+        Some(Entry {
             source,
             length,
             bytes: &pool[PLACE_BYTES * index..][..length.min(PLACE_BYTES)],
+            tick,
         })
     })
 }
@@ -232,6 +274,7 @@ mod tests {
             let what = random.once_in(2).then(|| Held {
                 len: random.byte(),
                 source: random.half(),
+                tick: random.half(),
             });
             assert_eq!(held(any_place(&mut random, what)), what);
             assert_eq!(held(canonical(what)), what);
@@ -240,8 +283,31 @@ mod tests {
         let what = Held {
             len: 72,
             source: 0x1234,
+            tick: 0x0201,
         };
         assert_eq!(held(bytes), Some(what));
-        assert_eq!(canonical(Some(what)), [1, 72, 0x34, 0x12, 0, 0, 0, 0]);
+        assert_eq!(canonical(Some(what)), [1, 72, 0x34, 0x12, 1, 2, 0, 0]);
+    }
+
+    #[test]
+    fn the_time_of_an_entry_is_the_latest_with_its_tick() {
+        let at = |tick, time| {
+            let entry = Entry {
+                source: 1,
+                length: 0,
+                bytes: &[],
+                tick,
+            };
+            let unfinished = entry.for_model(time);
+            assert_eq!(Entry::from(unfinished), entry);
+            unfinished.last_accepted
+        };
+        assert_eq!(at(7, 7), 7);
+        assert_eq!(at(5, 7), 5);
+        assert_eq!(at(65_535, 65_536 + 7), 65_535);
+        assert_eq!(at(8, 65_536 + 7), 8);
+        assert_eq!(at(1, (1 << 32) + 1), (1 << 32) + 1);
+        assert_eq!(at(2, (1 << 32) + 1), (1 << 32) - 65_534);
+        assert_eq!(at(8, 7), u64::MAX - 65_527);
     }
 }

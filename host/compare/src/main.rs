@@ -1,14 +1,16 @@
 //! Holds the program that runs the library and the model on random input and compares them after
-//! every call: `compare [--seed N] [--calls N]`.
+//! every call: `compare [--seed N] [--calls N]`. Before that it compares them at every age of an
+//! unfinished datagram.
 
 use std::env;
 use std::process::ExitCode;
 use std::time::Instant;
 
-use compare::ffi;
 use compare::random::Random;
 use compare::tally::Tally;
+use compare::tool::Library;
 use compare::world::World;
+use compare::{ages, ffi};
 
 const SEED: u64 = 1;
 const CALLS: u64 = 10_000_000;
@@ -47,13 +49,20 @@ fn main() -> ExitCode {
         }
     }
     let started = Instant::now();
+    match ages::every(&Library) {
+        Ok(calls) => println!("compare: every age, {calls} calls"),
+        Err(report) => {
+            print!("DIFFERENCE: every age\n{report}");
+            return ExitCode::FAILURE;
+        }
+    }
     let mut random = Random::new(seed);
     let mut tally = Tally::default();
     let mut world = World::new(&mut random);
     let mut place = Place { seed, call: 0 };
     while place.call < calls {
         place.call += 1;
-        if let Err(report) = world.call(&mut random, &mut tally) {
+        if let Err(report) = world.call(&Library, &mut random, &mut tally) {
             print!("DIFFERENCE: seed {seed}, call {}\n{report}", place.call);
             return ExitCode::FAILURE;
         }

@@ -8,20 +8,42 @@ use crate::faults::{is_damaged, Faults, Wrong};
 use crate::ffi::{self, Frame, Lock, Places, Pool, FRAME_SIZE, PLACES, PLACE_BYTES, SENT_SIZE};
 use crate::generate::{damage_places, rewrite_places, spoil_board, Board, Incoming};
 use crate::guarded::Guarded;
-use crate::layout::{self, TableKind};
+use crate::layout::{self, Entry, TableKind};
 use crate::random::Random;
 use crate::tally::{By, Case, Tally};
+use crate::times::{any_due, count_old, is_due, Call, Clock, Pasts};
 use model::{Reception, Unfinished, MOST_SENT};
+
+/// The functions of the board's half that bring a tick; the library's, where nothing else is said.
+/// The comparison is made with any that are handed in, so that it can be shown to find a difference
+/// that was planted.
+pub trait Handler {
+    /// Handles a frame that comes at this tick, for this board.
+    fn handle_frame(
+        &self,
+        board: &Board,
+        lent: &mut Lent,
+        tick: u16,
+        frame: &Incoming,
+    ) -> ffi::Numbers {
+        lent.frame(board, tick, frame)
+    }
+
+    /// Handles a tick that comes alone.
+    fn handle_tick(&self, places: &mut Places, tick: u16) -> ffi::Numbers {
+        ffi::handle_tick(places, tick)
+    }
+}
 
 /// What the library is lent.
 #[derive(Clone, Debug)]
-struct Library {
+pub struct Lent {
     table: Guarded,
     flash: Guarded,
     memory: Guarded,
     lock: Guarded,
-    places: Guarded,
-    pool: Guarded,
+    pub(crate) places: Guarded,
+    pub(crate) pool: Guarded,
     reply: Guarded,
     frames: Guarded,
 }
@@ -46,9 +68,9 @@ struct Before {
     pool: Pool,
 }
 
-impl Library {
+impl Lent {
     /// Makes the call for a frame.
-    fn frame(&mut self, board: &Board, frame: &Incoming) -> ffi::Numbers {
+    fn frame(&mut self, board: &Board, tick: u16, frame: &Incoming) -> ffi::Numbers {
         ffi::handle_frame(
             board.alias,
             board.write_lengths,
@@ -58,6 +80,7 @@ impl Library {
             self.lock.array_mut(),
             self.pool.array_mut(),
             self.places.array_mut(),
+            tick,
             frame.header,
             &frame.data,
             self.reply.bytes_mut(),
@@ -97,13 +120,14 @@ impl Library {
 
 impl Model {
     /// Makes the call for a frame: the answer, and the number of frames to be sent.
-    fn frame(&mut self, board: &Board, frame: &Incoming) -> (Answer, usize) {
+    fn frame(&mut self, board: &Board, time: u64, frame: &Incoming) -> (Answer, usize) {
         let answer = model::handle_frame(
             &board.for_model(),
             &self.flash,
             &mut self.memory,
             &mut self.lock,
             &mut self.reception,
+            time,
             frame.header,
             &frame.data,
             &mut self.reply,
@@ -129,42 +153,56 @@ impl Model {
             &mut self.reply,
         ))
     }
+
+    /// Makes the call for a lone tick.
+    fn tick(&mut self, time: u64) -> Answer {
+        match model::handle_time(&mut self.reception, time) {
+            Ok(()) => Answer::Nothing,
+            Err(house) => Answer::from(house),
+        }
+    }
 }
 
-/// A board, lent twice.
+/// A board, lent twice, with the time that both are told: the model all of it, and the library its
+/// last 16 bits.
 #[derive(Clone, Debug)]
 pub struct Setup {
     board: Board,
     table_kind: TableKind,
     faults: Faults,
-    library: Library,
+    library: Lent,
     model: Model,
     before: Before,
+    clock: Clock,
+    /// `None` where the places are no call's.
+    pasts: Option<Pasts>,
 }
 
-/// A reception state of the library as one of the model: what the places that are held hold. A
-/// damaged state goes to the model in the order of the places too: twins then need not stand side
-/// by side.
+/// A reception state of the library as one of the model at this time: what the places that are held
+/// hold. A damaged state goes to the model in the order of the places too: twins then need not
+/// stand side by side.
 ///
 /// # Panics
 ///
 /// Never: there are as many places on either side.
 #[must_use]
-pub fn for_model(places: &Places, pool: &Pool) -> Reception {
-    let entries: Vec<Unfinished> = layout::unfinished(places, pool).collect();
+pub fn for_model(places: &Places, pool: &Pool, time: u64) -> Reception {
+    let entries: Vec<Unfinished> = layout::unfinished(places, pool)
+        .map(|entry| entry.for_model(time))
+        .collect();
     Reception::from_unfinished(&entries).expect("eight places")
 }
 
 /// Unfinished datagrams in an order that does not depend on places.
-pub(crate) fn in_order<'p>(entries: impl Iterator<Item = Unfinished<'p>>) -> Vec<Unfinished<'p>> {
+pub(crate) fn in_order<'p>(entries: impl Iterator<Item = Entry<'p>>) -> Vec<Entry<'p>> {
     let mut entries: Vec<_> = entries.collect();
     entries.sort_unstable();
     entries
 }
 
 impl Setup {
-    /// A board with random contents and these places.
-    pub fn new(random: &mut Random, board: Board, places: Places) -> Self {
+    /// A board with random contents and these places, and a clock.
+    pub fn new(random: &mut Random, board: Board, places: Places, clock: Clock) -> Self {
         let flash = random.bytes(board.flash_len);
         let memory = random.bytes(board.memory_len);
         let mut pool = [0; ffi::POOL_BYTES];
@@ -174,7 +212,7 @@ impl Setup {
             random.fill(&mut lock);
         }
         let model = Model {
-            reception: for_model(&places, &pool),
+            reception: for_model(&places, &pool, clock.time()),
             lock,
             reply: Vec::new(),
             frames: [model::Frame::EMPTY; MOST_SENT],
@@ -182,7 +220,7 @@ impl Setup {
             memory,
         };
         Self {
-            library: Library {
+            library: Lent {
                 table: Guarded::new(board.table()),
                 flash: Guarded::new(&model.flash),
                 memory: Guarded::new(&model.memory),
@@ -202,7 +240,22 @@ impl Setup {
             table_kind: TableKind::of(board.table()),
             faults: Faults::of(&board),
             board,
+            clock,
+            pasts: Some(Pasts::default()),
         }
+    }
+
+    /// Lets ticks pass before the next call, at most so many.
+    pub fn pass(&mut self, random: &mut Random, most: u64) {
+        self.clock.pass(random, self.library.places.array(), most);
+    }
+
+    /// Puts other places, and another time.
+    pub fn set_places(&mut self, places: &Places, clock: Clock) {
+        *self.library.places.array_mut() = *places;
+        self.model.reception = for_model(places, self.library.pool.array(), clock.time());
+        self.clock = clock;
+        self.pasts = None;
     }
 
     /// The board.
@@ -265,8 +318,9 @@ impl Setup {
     /// The same with its reception state damaged.
     #[must_use]
     pub fn with_damaged_state(mut self, random: &mut Random) -> Self {
-        damage_places(random, self.library.places.array_mut());
-        self.model.reception = for_model(self.library.places.array(), self.library.pool.array());
+        let mut places = *self.library.places.array();
+        damage_places(random, &mut places);
+        self.set_places(&places, self.clock);
         self
     }
 
@@ -303,6 +357,7 @@ impl Setup {
     /// bytes, and gives the answer that both agree on.
     pub fn frame(
         &mut self,
+        handler: &impl Handler,
         frame: &Incoming,
         reply: &[u8],
         room: &[u8; SENT_SIZE],
@@ -311,12 +366,13 @@ impl Setup {
         let finished = self.finished(frame);
         self.begin(reply);
         self.library.frames.set(room);
-        let numbers = self.library.frame(&self.board, frame);
-        let (model_answer, model_count) = self.model.frame(&self.board, frame);
+        let (time, tick) = (self.clock.time(), self.clock.tick());
+        let numbers = handler.handle_frame(&self.board, &mut self.library, tick, frame);
+        let (model_answer, model_count) = self.model.frame(&self.board, time, frame);
         let answer = Answer::from(numbers);
         let done = Done {
             by: By::Frames,
-            joined: frame.header >> 24 == 0x1D,
+            frame: Some(frame),
             answer,
             model_answer,
             count: usize::from(numbers.frame_count),
@@ -325,13 +381,96 @@ impl Setup {
             reply,
             room,
         };
-        self.compare(&done, tally).map(|()| answer).map_err(|what| {
+        let compared = self.compare(&done, tally);
+        let compared = compared.map(|()| answer).map_err(|what| {
             let mut report = format!("call for a frame: {what}\n");
+            let _ = writeln!(report, "time              {time}, tick {tick}");
             let _ = writeln!(report, "header            {:08X}", frame.header);
             let _ = writeln!(report, "data              {}", hex(&frame.data));
             self.describe(&mut report, &done);
             report
-        })
+        });
+        self.clock.brought(matches!(answer, Answer::House { .. }));
+        compared
+    }
+
+    /// Brings a lone tick to both, and gives the answer that both agree on. It is lent the places
+    /// and asks for nothing else of the board.
+    pub fn tick(&mut self, handler: &impl Handler, tally: &mut Tally) -> Result<Answer, String> {
+        self.before.places = *self.library.places.array();
+        let (time, tick) = (self.clock.time(), self.clock.tick());
+        let numbers = handler.handle_tick(self.library.places.array_mut(), tick);
+        let answer = Answer::from(numbers);
+        let model_answer = self.model.tick(time);
+        let compared = self.compare_tick(answer, model_answer, numbers.frame_count, tally);
+        let compared = compared.map(|()| answer).map_err(|what| {
+            let mut report = format!("lone tick: {what}\n");
+            let _ = writeln!(report, "time              {time}, tick {tick}");
+            let _ = writeln!(report, "places before     {}", hex(&self.before.places));
+            let _ = writeln!(report, "library: numbers  {numbers:?}");
+            let _ = writeln!(report, "model:   answer   {}", in_words(model_answer));
+            self.describe_unfinished(&mut report);
+            report
+        });
+        self.clock.brought(matches!(answer, Answer::House { .. }));
+        compared
+    }
+
+    /// Compares everything after a lone tick.
+    fn compare_tick(
+        &mut self,
+        answer: Answer,
+        model_answer: Answer,
+        frame_count: u8,
+        tally: &mut Tally,
+    ) -> Result<(), &'static str> {
+        same(answer == model_answer, "the answers differ")?;
+        same(frame_count == 0, "there are frames to be sent")?;
+        self.compare_unfinished()?;
+        let Self {
+            library, before, ..
+        } = self;
+        same(
+            library.places.is_intact(),
+            "a byte outside what was lent is changed",
+        )?;
+        let due = any_due(&before.places, self.clock.tick());
+        let damaged = is_damaged(&before.places);
+        match answer {
+            Answer::House {
+                number: 7,
+                position: None,
+            } => {
+                same(damaged, "a state that is not damaged is refused")?;
+                same(
+                    library.places.bytes() == before.places,
+                    "a refused call changed the reception state",
+                )?;
+                tally.count(Case::TickB7);
+                tally.count_if(due, Case::TickB7Due);
+            }
+            Answer::Nothing => {
+                same(!damaged, "a damaged state is not refused")?;
+                // The pool is not lent.
+                let pool = library.pool.array();
+                compare_places(
+                    (&before.places, pool),
+                    (library.places.array(), pool),
+                    self.clock.tick(),
+                    0,
+                    |case| tally.count(case),
+                )?;
+                tally.count(Case::Tick);
+                tally.count_if(self.faults.refusal().is_some(), Case::TickBadBoard);
+                tally.count_if(
+                    (1..72).contains(&library.reply.bytes().len()),
+                    Case::TickShort,
+                );
+                self.count_times(answer, None, tally);
+            }
+            _ => return Err("a lone tick has no such answer"),
+        }
+        Ok(())
     }
 
     /// Makes the call for a whole datagram to both, and gives the answer that both agree on.
@@ -346,7 +485,7 @@ impl Setup {
         let answer = Answer::from(numbers);
         let done = Done {
             by: By::Whole,
-            joined: false,
+            frame: None,
             answer,
             model_answer: self.model.datagram(&self.board, datagram),
             count: usize::from(numbers.frame_count),
@@ -372,7 +511,7 @@ impl Setup {
         let Self {
             library, before, ..
         } = self;
-        if matches!(done.answer, Answer::House { .. } | Answer::Ignored) || done.by == By::Whole {
+        if matches!(done.answer, Answer::House { .. }) || done.by == By::Whole {
             same(
                 library.places.bytes() == before.places && library.pool.bytes() == before.pool,
                 "a refused call changed the reception state",
@@ -381,6 +520,8 @@ impl Setup {
             compare_places(
                 (&before.places, &before.pool),
                 (library.places.array(), library.pool.array()),
+                self.clock.tick(),
+                usize::from(done.answer != Answer::Ignored),
                 |case| tally.count(case),
             )?;
         }
@@ -421,11 +562,17 @@ impl Setup {
             library.frames.bytes() == done.expected_frames(model),
             "the frames differ, or the room behind them is changed",
         )?;
+        self.compare_unfinished()
+    }
+
+    /// Compares the unfinished datagrams. Of the model's times the library has the last 16 bits.
+    fn compare_unfinished(&self) -> Result<(), &'static str> {
+        let Self { library, model, .. } = self;
         same(
             in_order(layout::unfinished(
                 library.places.array(),
                 library.pool.bytes(),
-            )) == in_order(model.reception.unfinished()),
+            )) == in_order(model.reception.unfinished().map(Entry::from)),
             "the unfinished datagrams differ",
         )
     }
@@ -484,14 +631,35 @@ impl Setup {
         }
     }
 
+    /// Counts what was reached of times in a call that is not refused.
+    fn count_times(&mut self, answer: Answer, frame: Option<&Incoming>, tally: &mut Tally) {
+        let call = Call {
+            clock: self.clock,
+            before: &self.before.places,
+            after: self.library.places.array(),
+            answer,
+            frame,
+        };
+        match &mut self.pasts {
+            Some(pasts) => pasts.count(&call, tally),
+            None => count_old(&call, tally),
+        }
+    }
+
     /// Counts what was reached.
-    fn count(&self, done: &Done, tally: &mut Tally) -> Result<(), &'static str> {
+    fn count(&mut self, done: &Done, tally: &mut Tally) -> Result<(), &'static str> {
         if let Answer::House { number, position } = done.answer {
             tally.refused(done.by, number, position, &self.wrong(done));
+            let due = done.by == By::Frames && any_due(&self.before.places, self.clock.tick());
+            tally.count_if(due && number != 7, Case::RefusedDue);
+            tally.count_if(due && number == 7, Case::B7Due);
         } else {
             tally.table(done.by, self.table_kind);
+            if done.by == By::Frames {
+                self.count_times(done.answer, done.frame, tally);
+            }
         }
-        if done.joined && done.answer.is_of_datagram() {
+        if done.is_last() && done.answer.is_of_datagram() {
             tally.count(Case::Joined);
         }
         if done.by == By::Frames {
@@ -557,12 +725,18 @@ impl Setup {
         line("model:   memory", &hex(&model.memory));
         line("library: lock", &hex(library.lock.bytes()));
         line("model:   lock", &hex(&model.lock));
-        line("library: places", &hex(library.places.bytes()));
+        self.describe_unfinished(report);
+    }
+
+    /// Writes down what is unfinished afterwards.
+    fn describe_unfinished(&self, report: &mut String) {
+        let Self { library, model, .. } = self;
+        let _ = writeln!(report, "library: places   {}", hex(library.places.bytes()));
         for entry in layout::unfinished(library.places.array(), library.pool.bytes()) {
-            line("library: holds", &format!("{entry:X?}"));
+            let _ = writeln!(report, "library: holds    {entry:X?}");
         }
         for entry in model.reception.unfinished() {
-            line("model:   holds", &format!("{entry:X?}"));
+            let _ = writeln!(report, "model:   holds    {entry:X?}");
         }
     }
 }
@@ -570,8 +744,8 @@ impl Setup {
 /// What came of a call, and what went into it.
 struct Done<'c> {
     by: By,
-    /// Whether a finished datagram is one of several frames.
-    joined: bool,
+    /// The frame, if it is the call for one.
+    frame: Option<&'c Incoming>,
     answer: Answer,
     model_answer: Answer,
     /// The frames to be sent.
@@ -588,6 +762,11 @@ struct Done<'c> {
 const NO_ROOM: [u8; SENT_SIZE] = [0; SENT_SIZE];
 
 impl Done<'_> {
+    /// Whether a finished datagram is one of several frames.
+    fn is_last(&self) -> bool {
+        self.frame.is_some_and(|frame| frame.header >> 24 == 0x1D)
+    }
+
     /// What the room for frames holds after the call: the model's frames, and behind them what was
     /// there.
     fn expected_frames(&self, model: &Model) -> [u8; SENT_SIZE] {
@@ -612,11 +791,7 @@ pub(crate) fn same(same: bool, what: &'static str) -> Result<(), &'static str> {
 /// Memory after a call, by what the library says of it and without the model: outside of the bytes
 /// that it says are written, every byte is as it was. What is written is the next call's memory
 /// before.
-fn compare_memory(
-    answer: Answer,
-    before: &mut Before,
-    library: &Library,
-) -> Result<(), &'static str> {
+fn compare_memory(answer: Answer, before: &mut Before, library: &Lent) -> Result<(), &'static str> {
     let memory = library.memory.bytes();
     let (start, count) = match answer {
         Answer::Written { start, count } => (start, count),
@@ -632,11 +807,15 @@ fn compare_memory(
     Ok(())
 }
 
-/// The places after a frame that is not refused: at most one changes, that one has the canonical
-/// bytes of what it holds, and every other place keeps all its bytes, and its part of the pool.
+/// The places after a call that brought this tick and is not refused. First every place with
+/// something due is free and all zero. Then the frame, if there is one that is not ignored, changes
+/// at most one place, and that one has the canonical bytes of what it holds, with this tick. Every
+/// other place keeps all its bytes; and where the frame changes no place, the pool is as it was.
 pub(crate) fn compare_places(
     before: (&Places, &Pool),
     after: (&Places, &Pool),
+    tick: u16,
+    most_changed: usize,
     mut count: impl FnMut(Case),
 ) -> Result<(), &'static str> {
     let mut changed = 0;
@@ -644,17 +823,29 @@ pub(crate) fn compare_places(
         let old = layout::place(before.0, index);
         let new = layout::place(after.0, index);
         let (was, is) = (layout::held(old), layout::held(new));
-        if was == is {
-            same(old == new, "a place that did not change has other bytes")?;
+        let dropped = was.is_some_and(|held| is_due(held, tick));
+        same(
+            !dropped || is != was,
+            "a place with something due is not dropped",
+        )?;
+        if is == was.filter(|_| !dropped) {
+            if dropped {
+                same(
+                    new == layout::canonical(None),
+                    "a place that was dropped is not all zero",
+                )?;
+            } else {
+                same(old == new, "a place that did not change has other bytes")?;
+            }
             same(
                 pool_of(before.1, index) == pool_of(after.1, index),
                 "the pool is changed for a place that did not change",
             )?;
             if old != layout::canonical(was) {
-                count(if was.is_some() {
-                    Case::HeldKept
-                } else {
-                    Case::FreeKept
+                count(match was {
+                    Some(_) if dropped => Case::PlaceDropped,
+                    Some(_) => Case::HeldKept,
+                    None => Case::FreeKept,
                 });
             }
             continue;
@@ -664,15 +855,23 @@ pub(crate) fn compare_places(
             new == layout::canonical(is),
             "a place that changed has other bytes than it should",
         )?;
+        same(
+            is.is_none_or(|held| held.tick == tick),
+            "a place that changed has another tick than the call",
+        )?;
         if old != layout::canonical(was) {
             count(match (was, is) {
                 (None, _) => Case::PlaceOpened,
+                (Some(_), Some(_)) if dropped => Case::PlaceOpened,
                 (Some(_), Some(_)) => Case::PlaceAppended,
                 (Some(_), None) => Case::PlaceFreed,
             });
         }
     }
-    same(changed <= 1, "more than one place changed")
+    same(
+        changed <= most_changed,
+        "more places changed than the frame may change",
+    )
 }
 
 /// The bytes of the pool for a place.

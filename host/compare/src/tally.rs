@@ -180,12 +180,94 @@ cases! {
     PlaceOpened = "place opened, over other bytes", Small;
     /// A place that was held with other bytes than the library writes, appended to.
     PlaceAppended = "place appended to, over other bytes", Small;
-    /// A place that was held with other bytes than the library writes, finished or dropped.
+    /// A place that was held with other bytes than the library writes, finished or refused.
     PlaceFreed = "place freed, over other bytes", Small;
+    /// A place that was held with other bytes than the library writes, dropped by a tick.
+    PlaceDropped = "place dropped, over other bytes", Small;
     /// A place that is held with other bytes than the library writes, and keeps them.
     HeldKept = "place held, other bytes kept", Small;
     /// A place that is free with other bytes than zeros, and keeps them.
     FreeKept = "place free, other bytes kept", Small;
+    /// One was dropped before a frame that is not ignored.
+    DroppedByFrame = "dropped, at a frame", Small;
+    /// One was dropped before a frame that is ignored.
+    DroppedByIgnored = "dropped, at an ignored frame", Small;
+    /// One was dropped at a lone tick.
+    DroppedByTick = "dropped, at a lone tick", Small;
+    /// The greatest age that stays, before a frame that is not ignored.
+    Kept3000ByFrame = "3,000 back, kept at a frame", Small;
+    /// The same before a frame that is ignored.
+    Kept3000ByIgnored = "3,000 back, kept at an ignored one", Small;
+    /// The same at a lone tick.
+    Kept3000ByTick = "3,000 back, kept at a lone tick", Small;
+    /// The least age that does not, before a frame that is not ignored.
+    Dropped3001ByFrame = "3,001 back, dropped at a frame", Small;
+    /// The same before a frame that is ignored.
+    Dropped3001ByIgnored = "3,001 back, dropped at an ignored", Small;
+    /// The same at a lone tick.
+    Dropped3001ByTick = "3,001 back, dropped at a lone tick", Small;
+    /// One was kept whose tick is of the round before.
+    RoundKept = "kept, the count went round", Small;
+    /// One was dropped whose tick is greater than the call's.
+    RoundDropped = "dropped, the count went round", Small;
+    /// One was kept at a time that 32 bits do not hold.
+    LateKept = "kept, time over 32 bits", Small;
+    /// One was dropped at such a time.
+    LateDropped = "dropped, time over 32 bits", Small;
+    /// All that there may be were dropped.
+    EightDropped = "eight dropped at once", Small;
+    /// One was dropped and another kept.
+    DroppedBeside = "dropped, another kept", Small;
+    /// Both edges in one call.
+    BothEdges = "one 3,000 back, another 3,001", Small;
+    /// One was kept longer than its First alone would have kept it.
+    Renewed = "kept over 3,000 after its First", Small;
+    /// One was dropped that an ignored frame of its source would have kept if that renewed.
+    IgnoredSince = "dropped, its source ignored since", Small;
+    /// One was dropped that a refused frame of another would have kept if that renewed.
+    RefusedSince = "dropped, another refused since", Small;
+    /// A Single that counted as if nothing were unfinished.
+    SingleAfterDrop = "Single, its source's was dropped", Small;
+    /// A First that did.
+    FirstAfterDrop = "First, its source's was dropped", Small;
+    /// A Middle that did.
+    MiddleAfterDrop = "Middle, its source's was dropped", Small;
+    /// A Last that did.
+    LastAfterDrop = "Last, its source's was dropped", Small;
+    /// A First that had room only because one of eight was dropped.
+    RoomAfterDrop = "First, one of eight was dropped", Small;
+    /// As many ticks since the last call as there may be.
+    LongestGap = "61,999 ticks since the last call", Small;
+    /// A call that is not refused, and one that is since the last that is not.
+    RefusedBetween = "refused call between two others", Small;
+    /// A refusal of the board or the buffer, with something that was due and stays.
+    RefusedDue = "refused, what is due stays", Small;
+    /// B7 of a frame, with something that was due and stays.
+    B7Due = "B7, what is due stays", Small;
+    /// A frame on places with ages of any kind.
+    OldFrame = "any age, frame", Small;
+    /// A lone tick on such places.
+    OldTick = "any age, lone tick", Small;
+    /// One was kept.
+    OldKept = "any age, kept", Small;
+    /// One was dropped.
+    OldDropped = "any age, dropped", Small;
+    /// All that there may be were dropped.
+    OldEight = "any age, eight dropped at once", Small;
+    /// One was as old as none is by the calls of a good driver.
+    Old65000 = "any age, over 64,999", Small;
+    /// One was as old as a tick can tell.
+    OldMost = "any age, 65,535", Small;
+    /// A lone tick.
+    Tick = "lone tick", Small;
+    /// A lone tick that is refused.
+    TickB7 = "lone tick, B7 refused", Small;
+    /// A lone tick that is refused, with something that was due and stays.
+    TickB7Due = "lone tick, B7, what is due stays", Small;
+    /// A lone tick for a board that a frame is refused for, which it is not asked for.
+    TickBadBoard = "lone tick, the board is bad", Small;
+    /// A lone tick where a frame had a buffer that is too short, which it is not asked for.
+    TickShort = "lone tick, the buffer is short", Small;
     /// A datagram of several frames.
     Joined = "datagram finished by a Last", Small;
     /// No frame is sent.
@@ -252,6 +334,17 @@ cases! {
     SessionOpen = "session, last newline missing", Small;
 }
 
+impl Case {
+    /// The cases of times, in their order.
+    #[cfg(test)]
+    pub fn of_times() -> impl Iterator<Item = Self> {
+        let cases = Self::ALL.iter().map(|&(case, ..)| case);
+        cases
+            .skip_while(|&case| case != Self::DroppedByFrame)
+            .take_while(|&case| case != Self::Joined)
+    }
+}
+
 /// How a datagram came.
 #[derive(Clone, Copy, Debug, PartialEq, Eq)]
 pub enum By {
@@ -293,6 +386,17 @@ impl Tally {
     /// Counts a case of the smaller calls.
     pub fn count(&mut self, case: Case) {
         self.cases[0][case as usize] += 1;
+    }
+
+    /// Counts a case of the smaller calls if it is one.
+    pub fn count_if(&mut self, is: bool, case: Case) {
+        self.cases[0][case as usize] += u64::from(is);
+    }
+
+    /// How often a case of the smaller calls was counted.
+    #[cfg(test)]
+    pub fn counted(&self, case: Case) -> u64 {
+        self.cases[0][case as usize]
     }
 
     /// Counts what is to be seen of a table that is not refused.

@@ -17,14 +17,15 @@ use crate::ffi::tool::{self as edge, Acknowledged, Composed, Joined, Rejection, 
 use crate::ffi::{Places, Pool};
 use crate::guarded::Guarded;
 use crate::random::Random;
-use crate::setup::Setup;
+use crate::setup::{Handler, Setup};
 use crate::tally::Tally;
 use join::Listener;
 use request::Request;
 
-/// The functions of the tool's half. The comparison is made with any that are handed in, so that it
-/// can be shown to find a difference that was planted.
-pub trait Archive {
+/// The functions of the tool's half, beside those of the board's that bring a tick. The comparison
+/// is made with any that are handed in, so that it can be shown to find a difference that was
+/// planted.
+pub trait Archive: Handler {
     /// Writes the command for a request into a buffer.
     fn compose(&self, request: &Request, buffer: &mut Guarded) -> Composed;
     /// Reads the content of a Received OK.
@@ -47,6 +48,8 @@ pub trait Archive {
 /// The library.
 #[derive(Clone, Copy, Debug)]
 pub struct Library;
+
+impl Handler for Library {}
 
 impl Archive for Library {
     fn compose(&self, request: &Request, buffer: &mut Guarded) -> Composed {

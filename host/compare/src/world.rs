@@ -1,16 +1,17 @@
 //! Holds a world: a board, the tools that send to it, a tool that listens, and calls one after the
-//! other, so that memory, lock and unfinished datagrams have a history.
+//! other with ticks between them, so that memory, lock and unfinished datagrams have a history.
 
 use crate::answer::Answer;
 use crate::ffi::{PLACES_SIZE, SENT_SIZE};
-use crate::generate::{datagram, good_board, sound_places, tools, Tool};
+use crate::generate::{any_frame, datagram, good_board, old_places, sound_places, tools, Tool};
 use crate::lines;
 use crate::random::Random;
 use crate::setup::Setup;
 use crate::small;
 use crate::tally::Tally;
+use crate::times::{start, Clock, GREATEST_AGE, MOST_TICKS, ROUND};
 use crate::tool::join::Listener;
-use crate::tool::{self, Library};
+use crate::tool::{self, Archive};
 
 /// How many calls for the tool's half there are for one hundred of the others.
 const TOOL_CALLS: usize = 5;
@@ -24,17 +25,20 @@ pub struct World {
 }
 
 impl World {
-    /// A new world, to be left after some hundreds of calls.
+    /// A new world, to be left after some hundreds of calls. What is unfinished at its start is as
+    /// a call at that time leaves it.
     pub fn new(random: &mut Random) -> Self {
         let board = good_board(random);
         let tools = tools(random, &board);
+        let clock = Clock::new(random);
         let places = if random.once_in(2) {
-            sound_places(random, &tools)
+            let oldest = clock.time().min(u64::from(GREATEST_AGE)) as u16;
+            sound_places(random, &tools, clock.tick(), oldest)
         } else {
             [0; PLACES_SIZE]
         };
         Self {
-            setup: Setup::new(random, board, places),
+            setup: Setup::new(random, board, places, clock),
             tools,
             listener: Listener::new(random),
             calls_left: random.between(50, 600),
@@ -48,31 +52,28 @@ impl World {
     }
 
     /// Makes one call to both sides; the text says what differs.
-    pub fn call(&mut self, random: &mut Random, tally: &mut Tally) -> Result<(), String> {
+    pub fn call(
+        &mut self,
+        archive: &impl Archive,
+        random: &mut Random,
+        tally: &mut Tally,
+    ) -> Result<(), String> {
         self.calls_left -= 1;
         match random.below(100 + TOOL_CALLS) {
-            100.. => tool::call(&Library, &mut self.setup, &mut self.listener, random, tally),
-            0..=52 => {
-                if random.once_in(8) {
-                    self.setup.rewrite_places(random);
-                }
-                let tool = random.below(self.tools.len());
-                let frame = self.tools[tool].frame(random, self.setup.board());
-                let reply = buffer(random, false);
-                let answer = self.setup.frame(&frame, &reply, &room(random), tally)?;
-                // Some tools go on sending, so that stray frames come too.
-                if matches!(answer, Answer::TransportRefusal(_)) && !random.once_in(4) {
-                    self.tools[tool].give_up();
-                }
-                Ok(())
+            100.. => tool::call(archive, &mut self.setup, &mut self.listener, random, tally),
+            0..=46 => self.frame(archive, random, tally),
+            47..=50 => {
+                self.setup.pass(random, MOST_TICKS);
+                self.setup.tick(archive, tally).map(|_| ())
             }
+            51 | 52 => self.old_call(archive, random, tally),
             53..=76 => {
                 let datagram = datagram(random, self.setup.board());
                 self.setup
                     .datagram(&datagram, &buffer(random, false), tally)
                     .map(|_| ())
             }
-            77..=84 => self.spoilt_call(random, tally),
+            77..=84 => self.spoilt_call(archive, random, tally),
             85..=87 => small::cut(random, tally),
             88..=90 => small::transport(random, tally),
             91..=93 => small::parse(random, tally),
@@ -85,12 +86,51 @@ impl World {
         }
     }
 
+    /// The next frame of a tool.
+    fn frame(
+        &mut self,
+        archive: &impl Archive,
+        random: &mut Random,
+        tally: &mut Tally,
+    ) -> Result<(), String> {
+        if random.once_in(8) {
+            self.setup.rewrite_places(random);
+        }
+        self.setup.pass(random, MOST_TICKS);
+        let tool = random.below(self.tools.len());
+        let frame = self.tools[tool].frame(random, self.setup.board());
+        let reply = buffer(random, false);
+        let room = room(random);
+        let answer = self.setup.frame(archive, &frame, &reply, &room, tally)?;
+        // Some tools go on sending, so that stray frames come too.
+        if matches!(answer, Answer::TransportRefusal(_)) && !random.once_in(4) {
+            self.tools[tool].give_up();
+        }
+        Ok(())
+    }
+
     /// A call with something wrong in what it is lent. It is made on a copy, so that the world
-    /// goes on with what it had.
-    fn spoilt_call(&self, random: &mut Random, tally: &mut Tally) -> Result<(), String> {
-        let mut setup = self.setup.clone();
+    /// goes on with what it had; but a frame with a short buffer alone changes nothing, and is
+    /// often one of the world's own calls.
+    fn spoilt_call(
+        &mut self,
+        archive: &impl Archive,
+        random: &mut Random,
+        tally: &mut Tally,
+    ) -> Result<(), String> {
+        let index = random.below(self.tools.len());
+        let frame = self.tools[index].clone().frame(random, self.setup.board());
+        let room = room(random);
         let faults = random.between(1, 7);
         let short = faults & 1 != 0;
+        let reply = buffer(random, short);
+        if faults == 1 && random.once_in(2) {
+            self.setup.pass(random, MOST_TICKS);
+            self.setup.frame(archive, &frame, &reply, &room, tally)?;
+            return Ok(());
+        }
+        let mut setup = self.setup.clone();
+        setup.pass(random, MOST_TICKS);
         if faults & 2 != 0 {
             let times = random.between(1, 3);
             setup = setup.with_spoilt_board(random, times);
@@ -100,14 +140,47 @@ impl World {
         }
         if random.once_in(3) {
             let datagram = datagram(random, self.setup.board());
-            setup.datagram(&datagram, &buffer(random, short), tally)
+            setup.datagram(&datagram, &reply, tally)?;
         } else {
-            let index = random.below(self.tools.len());
-            let frame = self.tools[index].clone().frame(random, self.setup.board());
-            let reply = buffer(random, short);
-            setup.frame(&frame, &reply, &room(random), tally)
+            setup.frame(archive, &frame, &reply, &room, tally)?;
         }
-        .map(|_| ())
+        // What refuses a frame need not refuse a tick.
+        if random.once_in(4) {
+            setup.tick(archive, tally)?;
+        }
+        Ok(())
+    }
+
+    /// A frame or a lone tick, on a copy with places as no call of a good driver leaves them: with
+    /// ages up to the greatest that a tick can tell, and at times damaged.
+    fn old_call(
+        &self,
+        archive: &impl Archive,
+        random: &mut Random,
+        tally: &mut Tally,
+    ) -> Result<(), String> {
+        let mut setup = self.setup.clone();
+        // Of all earlier ticks there is one before this time.
+        let clock = Clock::at(ROUND + start(random));
+        let places = old_places(random, &self.tools, clock.tick());
+        setup.set_places(&places, clock);
+        if random.once_in(8) {
+            setup = setup.with_damaged_state(random);
+        }
+        if random.once_in(3) {
+            setup.tick(archive, tally)?;
+            return Ok(());
+        }
+        let tool = &self.tools[random.below(self.tools.len())];
+        let frame = if random.once_in(2) {
+            tool.clone().frame(random, setup.board())
+        } else {
+            any_frame(random, setup.board(), tool.source())
+        };
+        let short = random.once_in(16);
+        let reply = buffer(random, short);
+        setup.frame(archive, &frame, &reply, &room(random), tally)?;
+        Ok(())
     }
 }
 

@@ -1,9 +1,10 @@
 //! Holds what document 01 says of the demonstration board, asked of the library through its C
-//! edge: the session, and the whole datagrams; and what change request C-11 says of a board that is
-//! refused.
+//! edge: the session, and the whole datagrams; what change request C-11 says of a board that is
+//! refused; and what C-14 says of ticks.
 
 use compare::demonstration::{Demonstration, ALIAS, FLASH, MEMORY_LEN, TABLE, WRITE_LENGTHS};
-use compare::ffi::{self, Carry, NO_POSITION, SPACE_SIZE};
+use compare::ffi::{self, Carry, NO_POSITION, PLACES, SPACE_SIZE};
+use compare::layout::{held, place};
 
 /// The reply to a whole datagram, or the code of its rejection.
 fn answer(board: &mut Demonstration, datagram: &[u8]) -> Vec<u8> {
@@ -188,6 +189,7 @@ fn refused(
         &mut lock,
         &mut pool,
         &mut places,
+        0,
         header,
         &done,
         &mut reply,
@@ -250,6 +252,107 @@ fn a_broken_limit_has_its_number_and_no_position() {
     table.resize(17 * SPACE_SIZE, 0);
     assert_eq!(refused(0, &table, [large; 2], 71), (11, NO_POSITION));
     assert_eq!(refused(ALIAS, &table, STORES, 72), (11, NO_POSITION));
+}
+
+/// The First and the Last of a write of one byte to address 2, by this tool.
+fn write_by(tool: u32) -> [(u32, Vec<u8>); 2] {
+    [
+        (0x1B22_B000 | tool, bytes("200100000002")),
+        (0x1D22_B000 | tool, bytes("AB")),
+    ]
+}
+
+/// The tools that have a datagram unfinished, and the ticks of their last accepted frames.
+fn unfinished(board: &mut Demonstration) -> Vec<(u16, u16)> {
+    let places = *board.places();
+    (0..PLACES)
+        .filter_map(|index| held(place(&places, index)))
+        .map(|held| (held.source, held.tick))
+        .collect()
+}
+
+#[test]
+fn exactly_3000_ticks_stay() {
+    let [(first, start), (last, rest)] = write_by(0x123);
+    for opened in [0, 1, 3_000, 62_535, 62_536, 65_535] {
+        for (ticks, kept) in [(0, true), (2_999, true), (3_000, true), (3_001, false)] {
+            let now = (opened + ticks) as u16;
+            let mut board = Demonstration::new();
+            assert_eq!(board.frame_at(opened as u16, first, &start).kind, 2);
+            let expected: &[_] = if kept { &[(0x123, opened as u16)] } else { &[] };
+            // At a lone tick, at an ignored frame, and at the Last itself.
+            let mut alone = board.clone();
+            let numbers = alone.tick(now);
+            assert_eq!((numbers.kind, numbers.position), (2, NO_POSITION));
+            assert_eq!((numbers.frame_count, numbers.house), (0, 0));
+            assert_eq!(unfinished(&mut alone), expected, "{opened}, {ticks}");
+            let mut ignored = board.clone();
+            assert_eq!(ignored.frame_at(now, 0x1C30_0123, &rest).kind, 1);
+            assert_eq!(unfinished(&mut ignored), expected, "{opened}, {ticks}");
+            let numbers = board.frame_at(now, last, &rest);
+            let expected = if kept { (5, 0) } else { (3, 0x2040) };
+            assert_eq!((numbers.kind, numbers.code), expected, "{opened}, {ticks}");
+            assert_eq!(board.memory[2], if kept { 0xAB } else { 0 });
+            assert_eq!(*board.places(), [0; ffi::PLACES_SIZE]);
+        }
+    }
+}
+
+#[test]
+fn eight_that_were_unplugged_are_dropped() {
+    let mut board = Demonstration::new();
+    for tool in 1..=8 {
+        let [(first, start), _] = write_by(tool);
+        assert_eq!(board.frame_at(65_000, first, &start).kind, 2);
+    }
+    let [(first, start), (last, rest)] = write_by(9);
+    // 3,000 ticks later the count has gone round.
+    let numbers = board.frame_at(2_464, first, &start);
+    assert_eq!((numbers.kind, numbers.code), (3, 0x2020));
+    assert_eq!(unfinished(&mut board).len(), 8);
+    assert_eq!(board.frame_at(2_465, first, &start).kind, 2);
+    assert_eq!(unfinished(&mut board), [(9, 2_465)]);
+    assert_eq!(board.frame_at(5_465, last, &rest).kind, 5);
+    assert_eq!(board.memory[2], 0xAB);
+}
+
+#[test]
+fn only_an_accepted_frame_renews() {
+    let mut board = Demonstration::new();
+    let [(first, start), (last, rest)] = write_by(1);
+    let middle = 0x1C22_B001;
+    assert_eq!(board.frame_at(10, first, &start[..4]).kind, 2);
+    assert_eq!(board.frame_at(3_010, middle, &start[4..]).kind, 2);
+    assert_eq!(unfinished(&mut board), [(1, 3_010)]);
+    // An ignored frame of the same tool, and a refused one of another.
+    assert_eq!(board.frame_at(6_000, 0x1C30_0001, &rest).kind, 1);
+    assert_eq!(board.frame_at(6_010, 0x1C22_B002, &rest).kind, 3);
+    assert_eq!(unfinished(&mut board), [(1, 3_010)]);
+    let mut late = board.clone();
+    assert_eq!(late.tick(6_011).kind, 2);
+    assert_eq!(unfinished(&mut late), []);
+    assert_eq!(board.frame_at(6_010, last, &rest).kind, 5);
+}
+
+#[test]
+fn a_lone_tick_tests_b7_alone() {
+    let mut board = Demonstration::new();
+    let [(first, start), _] = write_by(1);
+    board.frame_at(0, first, &start);
+    // The same source twice, both of them long due.
+    let places = board.places();
+    places.copy_within(..8, 8);
+    let before = *places;
+    let numbers = board.tick(40_000);
+    assert_eq!((numbers.kind, numbers.house), (0, 7));
+    assert_eq!((numbers.frame_count, numbers.position), (0, NO_POSITION));
+    assert_eq!(*board.places(), before);
+    // A place that is not held has no source.
+    board.places()[8] = 0;
+    assert_eq!(board.tick(40_000).kind, 2);
+    let mut after = before;
+    after[..9].fill(0);
+    assert_eq!(*board.places(), after);
 }
 
 #[test]

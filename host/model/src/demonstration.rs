@@ -2,7 +2,7 @@
 
 use crate::datagram::{handle_datagram, Answer, Lock};
 use crate::description::{Description, Space};
-use crate::joining::{handle_frame, FrameAnswer};
+use crate::joining::{handle_frame, handle_time, FrameAnswer};
 use crate::reception::Reception;
 use crate::HouseNumber;
 
@@ -76,9 +76,10 @@ pub fn demo_board() -> Board {
 }
 
 impl Board {
-    /// Handles one frame with what the board owns.
+    /// Handles one frame, which comes at this time, with what the board owns.
     pub fn frame(
         &mut self,
+        time: u64,
         header: u32,
         data: &[u8],
         reply: &mut [u8],
@@ -89,10 +90,16 @@ impl Board {
             &mut self.memory,
             &mut self.lock,
             &mut self.reception,
+            time,
             header,
             data,
             reply,
         )
+    }
+
+    /// Handles a lone tick with the board's unfinished datagrams.
+    pub fn time(&mut self, time: u64) -> Result<(), HouseNumber> {
+        handle_time(&mut self.reception, time)
     }
 
     /// Handles one whole datagram with what the board owns.

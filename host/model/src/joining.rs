@@ -1,4 +1,5 @@
-//! Holds the joining of frames: what one frame does to the reception state, and its answer.
+//! Holds the joining of frames: what one frame, and what a lone tick, does to the reception state,
+//! and the answer to the frame.
 
 use crate::datagram::{self, check_reply_buffer, code, Answer, Lock};
 use crate::description::{check_description, Description};
@@ -9,7 +10,8 @@ use crate::HouseNumber;
 /// What the board answers to one frame.
 #[derive(Clone, Copy, Debug, PartialEq, Eq)]
 pub enum FrameAnswer {
-    /// The frame is none of the board's business: no answer and no change.
+    /// The frame is none of the board's business: no answer, and no change but what its time
+    /// brings.
     Ignored,
     /// The frame was joined to an unfinished datagram: no answer yet.
     Nothing,
@@ -49,10 +51,17 @@ fn recognise(alias: u16, header: u32, data: &[u8]) -> Option<(Kind, u16)> {
     (destination == alias && source != alias && data.len() <= FRAME_DATA).then_some((kind, source))
 }
 
-/// Handles one frame.
+/// Handles one frame, which comes at this time.
 ///
 /// B11 to B14, then B2 to B7, come first, in this order and also for a frame that would be ignored;
-/// they change nothing.
+/// they change nothing and drop nothing.
+///
+/// Then, before the frame is looked at, every unfinished datagram whose source's last accepted
+/// frame is more than 3,000 ticks back is dropped without an answer. A frame that opens, is joined
+/// or finishes is accepted; one that is ignored or gets a transport refusal is not.
+///
+/// The time counts ticks and is the full one: it goes on past 65,535 and never falls from call to
+/// call.
 #[expect(
     clippy::too_many_arguments,
     reason = "everything the board has is lent, each thing by itself"
@@ -63,13 +72,14 @@ pub fn handle_frame(
     memory: &mut [u8],
     lock: &mut Lock,
     reception: &mut Reception,
+    time: u64,
     header: u32,
     data: &[u8],
     reply: &mut [u8],
 ) -> Result<FrameAnswer, HouseNumber> {
     check_description(description, flash.len(), memory.len())?;
     check_reply_buffer(reply)?;
-    reception.check()?;
+    handle_time(reception, time)?;
 
     let Some((kind, source)) = recognise(description.alias, header, data) else {
         return Ok(FrameAnswer::Ignored);
@@ -84,14 +94,14 @@ pub fn handle_frame(
             reply,
         )),
         (Kind::First, None) => {
-            if reception.open(source, data) {
+            if reception.open(source, data, time) {
                 FrameAnswer::Nothing
             } else {
                 FrameAnswer::TransportRefusal(code::NO_ROOM)
             }
         }
         (Kind::Middle, Some(place)) if !data.is_empty() => {
-            if reception.append(place, data) {
+            if reception.append(place, data, time) {
                 FrameAnswer::Nothing
             } else {
                 reception.free(place);
@@ -99,7 +109,7 @@ pub fn handle_frame(
             }
         }
         (Kind::Last, Some(place)) => {
-            let answer = if reception.append(place, data) {
+            let answer = if reception.append(place, data, time) {
                 let whole = reception.joined(place);
                 FrameAnswer::Handled(datagram::handle(
                     description,
@@ -122,4 +132,14 @@ pub fn handle_frame(
             FrameAnswer::TransportRefusal(code::OUT_OF_ORDER)
         }
     })
+}
+
+/// Handles a lone tick: a time that comes without a frame.
+///
+/// Only B7 is tested, and it changes nothing and drops nothing. Then every unfinished datagram
+/// whose source's last accepted frame is more than 3,000 ticks back is dropped without an answer.
+pub fn handle_time(reception: &mut Reception, time: u64) -> Result<(), HouseNumber> {
+    reception.check()?;
+    reception.drop_due(time);
+    Ok(())
 }

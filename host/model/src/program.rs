@@ -9,6 +9,9 @@ use crate::gridconnect::{parse_line, print_line, LONGEST_LINE};
 use crate::sending::{frames_to_send, MOST_SENT};
 use crate::splitting::{Line, Splitter};
 
+/// The time that every frame comes with: the program has no tick but 0.
+const TIME: u64 = 0;
+
 /// The demonstration board behind lines, with the room for what it answers.
 struct Lines {
     board: Board,
@@ -37,7 +40,7 @@ impl Lines {
     fn frame(&mut self, frame: &Frame, out: &mut Vec<u8>) {
         let answer = self
             .board
-            .frame(frame.header(), frame.data(), &mut self.reply)
+            .frame(TIME, frame.header(), frame.data(), &mut self.reply)
             .expect("the demonstration board and its state are sound");
         let alias = self.board.description.alias;
         let count = frames_to_send(

@@ -1,4 +1,5 @@
-//! Holds the reception state: the unfinished datagrams of up to eight sources, and its check (B7).
+//! Holds the reception state: the unfinished datagrams of up to eight sources, its check (B7), and
+//! its timeout.
 
 use crate::datagram::LONGEST_DATAGRAM;
 use crate::description::LAST_ALIAS;
@@ -6,6 +7,9 @@ use crate::HouseNumber;
 
 /// The most sources that may each have one unfinished datagram.
 pub const MOST_UNFINISHED: usize = 8;
+/// How many ticks back the last accepted frame of a source may be while its unfinished datagram
+/// stays: exactly 3,000 stays, more is dropped.
+pub const RECEPTION_TIMEOUT: u64 = 3_000;
 
 /// One unfinished datagram as it goes into and comes out of a reception state.
 #[derive(Clone, Copy, Debug, PartialEq, Eq, PartialOrd, Ord)]
@@ -16,6 +20,8 @@ pub struct Unfinished<'a> {
     pub length: usize,
     /// The bytes joined so far, as many as the stored length says but never over 72.
     pub bytes: &'a [u8],
+    /// The time of its source's last accepted frame, in ticks. No time is damaged.
+    pub last_accepted: u64,
 }
 
 #[derive(Clone, Copy, Debug)]
@@ -23,6 +29,7 @@ struct Place {
     source: u16,
     length: usize,
     bytes: [u8; LONGEST_DATAGRAM],
+    last_accepted: u64,
 }
 
 impl Place {
@@ -30,6 +37,7 @@ impl Place {
         source: 0,
         length: 0,
         bytes: [0; LONGEST_DATAGRAM],
+        last_accepted: 0,
     };
 }
 
@@ -38,6 +46,9 @@ impl Place {
 pub struct Reception {
     /// Bit `n` says that place `n` holds an unfinished datagram.
     in_use: u8,
+    /// No last accepted frame of an unfinished datagram is earlier than this. It spares a walk
+    /// through the places: while this is not more than 3,000 ticks back, none of them is.
+    earliest: u64,
     places: [Place; MOST_UNFINISHED],
 }
 
@@ -53,6 +64,7 @@ impl Reception {
     pub const fn new() -> Self {
         Self {
             in_use: 0,
+            earliest: u64::MAX,
             places: [Place::FREE; MOST_UNFINISHED],
         }
     }
@@ -73,6 +85,8 @@ impl Reception {
             place.length = entry.length;
             let kept = entry.bytes.len().min(entry.length).min(LONGEST_DATAGRAM);
             place.bytes[..kept].copy_from_slice(&entry.bytes[..kept]);
+            place.last_accepted = entry.last_accepted;
+            reception.earliest = reception.earliest.min(entry.last_accepted);
             reception.in_use |= 1 << index;
         }
         Some(reception)
@@ -86,6 +100,7 @@ impl Reception {
                 source: place.source,
                 length: place.length,
                 bytes: &place.bytes[..place.length.min(LONGEST_DATAGRAM)],
+                last_accepted: place.last_accepted,
             }
         })
     }
@@ -99,7 +114,8 @@ impl Reception {
         })
     }
 
-    /// Whether both states keep the same unfinished datagrams, in whatever order.
+    /// Whether both states keep the same unfinished datagrams with the same times, in whatever
+    /// order.
     #[must_use]
     pub fn keeps_the_same_as(&self, other: &Self) -> bool {
         let count_in = |state: &Self, entry: Unfinished| {
@@ -111,7 +127,8 @@ impl Reception {
                 .all(|entry| count_in(self, entry) == count_in(other, entry))
     }
 
-    /// B7: every length at most 72, every source at most 4,095, no source twice.
+    /// B7: every length at most 72, every source at most 4,095, no source twice. It asks nothing
+    /// of times.
     pub fn check(&self) -> Result<(), HouseNumber> {
         let mut left = self.in_use;
         while left != 0 {
@@ -132,9 +149,31 @@ impl Reception {
         indices(self.in_use).find(|&index| self.places[index].source == source)
     }
 
-    /// Opens a datagram in a free place; false, with no change, where all eight are in use.
-    /// The data are at most 8 bytes.
-    pub(crate) fn open(&mut self, source: u16, data: &[u8]) -> bool {
+    /// Drops the unfinished datagrams whose source's last accepted frame is more than 3,000 ticks
+    /// back at this time. The state has been checked.
+    pub(crate) fn drop_due(&mut self, time: u64) {
+        if is_due(self.earliest, time) {
+            self.drop_each_due(time);
+        }
+    }
+
+    /// The same, one place after the other.
+    #[cold]
+    fn drop_each_due(&mut self, time: u64) {
+        self.earliest = u64::MAX;
+        for index in indices(self.in_use) {
+            let last_accepted = self.places[index].last_accepted;
+            if is_due(last_accepted, time) {
+                self.free(index);
+            } else {
+                self.earliest = self.earliest.min(last_accepted);
+            }
+        }
+    }
+
+    /// Opens a datagram in a free place with a frame of this time; false, with no change, where
+    /// all eight are in use. The data are at most 8 bytes.
+    pub(crate) fn open(&mut self, source: u16, data: &[u8], time: u64) -> bool {
         let index = self.in_use.trailing_ones() as usize;
         let Some(place) = self.places.get_mut(index) else {
             return false;
@@ -142,13 +181,15 @@ impl Reception {
         place.source = source;
         place.length = data.len();
         place.bytes[..data.len()].copy_from_slice(data);
+        place.last_accepted = time;
+        self.earliest = self.earliest.min(time);
         self.in_use |= 1 << index;
         true
     }
 
-    /// Appends to the datagram in this place; false, with no change, where the total would go
-    /// past 72 bytes.
-    pub(crate) fn append(&mut self, index: usize, data: &[u8]) -> bool {
+    /// Appends the data of a frame of this time to the datagram in this place; false, with no
+    /// change, where the total would go past 72 bytes.
+    pub(crate) fn append(&mut self, index: usize, data: &[u8], time: u64) -> bool {
         let place = &mut self.places[index];
         let total = place.length + data.len();
         let Some(room) = place.bytes.get_mut(place.length..total) else {
@@ -156,6 +197,8 @@ impl Reception {
         };
         room.copy_from_slice(data);
         place.length = total;
+        place.last_accepted = time;
+        self.earliest = self.earliest.min(time);
         true
     }
 
@@ -169,6 +212,12 @@ impl Reception {
     pub(crate) fn free(&mut self, index: usize) {
         self.in_use &= !(1 << index);
     }
+}
+
+/// Whether a frame accepted at the first time is more than 3,000 ticks back at the second. One
+/// that lies after it is not back at all.
+const fn is_due(last_accepted: u64, time: u64) -> bool {
+    time.saturating_sub(last_accepted) > RECEPTION_TIMEOUT
 }
 
 /// The numbers of the bits at 1.

@@ -4,7 +4,9 @@
 mod common;
 
 use common::{entry, first, hex, in_flash, read_only, single, space, Bench};
-use model::{check_description, Answer, Description, FrameAnswer, HouseNumber, Reception, Space};
+use model::{
+    check_description, Answer, Description, FrameAnswer, HouseNumber, Reception, Space, Unfinished,
+};
 use HouseNumber::{B11, B12, B13, B14, B2, B3, B4, B5, B6, B7, B9};
 
 /// A limit's house number, and how a board comes to break it.
@@ -59,8 +61,11 @@ fn checked(bench: &Bench) -> Result<(), HouseNumber> {
 }
 
 /// Puts a write, a lock, a frame and an ignored frame to the board; all are refused alike and
-/// nothing changes. The whole-datagram calls know nothing of B7.
+/// nothing changes. The whole-datagram calls know nothing of B7, and a lone tick of B7 alone.
 fn assert_refused(bench: &Bench, house_number: HouseNumber) {
+    let mut board = bench.clone();
+    assert_eq!(board.lone_tick(), bench.reception.check());
+    board.assert_as(bench);
     for datagram in ["", "20010000000011", "2088010203040506", "2080", "21"] {
         let mut board = bench.clone();
         let answer = board.datagram(&hex(datagram));
@@ -379,7 +384,7 @@ fn b6_reply_buffer() {
 #[test]
 fn b7_reception() {
     let bytes = [7; 72];
-    let damaged: &[&[model::Unfinished]] = &[
+    let damaged: &[&[Unfinished]] = &[
         &[entry(1, 73, &bytes)],
         &[entry(1, usize::MAX, &bytes)],
         &[entry(4_096, 0, &[])],
@@ -401,8 +406,13 @@ fn b7_reception() {
         &[entry(0x123, 73, &bytes)],
         &[entry(0x123, 8, &bytes), entry(0x456, 73, &bytes)],
     ];
-    for entries in damaged {
+    // At the later times every entry would be dropped.
+    for (entries, time) in damaged
+        .iter()
+        .flat_map(|&entries| [0, 3_001, u64::MAX].map(|time| (entries, time)))
+    {
         let mut bench = Bench::demo();
+        bench.time = time;
         bench.reception = Reception::from_unfinished(entries).unwrap();
         assert_eq!(bench.reception.check(), Err(B7));
         assert_refused(&bench, B7);
@@ -411,6 +421,33 @@ fn b7_reception() {
         assert_refused(&short, B6);
         short.spaces[1].lowest = 0x30;
         assert_refused(&short, B2(1));
+    }
+}
+
+#[test]
+fn b7_asks_nothing_of_times() {
+    let times = [0, 1, 3_001, 65_536, 4_294_967_296, u64::MAX - 1, u64::MAX];
+    for (one, two, time) in times
+        .iter()
+        .flat_map(|one| times.iter().map(move |two| (*one, *two)))
+        .flat_map(|(one, two)| times.map(|time| (one, two, time)))
+    {
+        let entries = [
+            Unfinished {
+                last_accepted: one,
+                ..entry(1, 0, &[])
+            },
+            Unfinished {
+                last_accepted: two,
+                ..entry(2, 0, &[])
+            },
+        ];
+        let mut bench = Bench::demo();
+        bench.time = time;
+        bench.reception = Reception::from_unfinished(&entries).unwrap();
+        assert_eq!(bench.reception.check(), Ok(()));
+        assert_eq!(bench.clone().lone_tick(), Ok(()));
+        assert_eq!(bench.frame(0, &[]), Ok(FrameAnswer::Ignored));
     }
 }
 
@@ -444,18 +481,25 @@ fn states_of_more_than_eight_entries_cannot_be_made() {
 #[test]
 fn entries_come_back_as_they_went_in() {
     let bytes: Vec<u8> = (0..72).collect();
-    let entries = [
+    let mut entries = [
         entry(9, 200, &bytes),
         entry(9, 3, &bytes[..3]),
         entry(0xFFFF, 0, &[]),
         entry(3, 72, &bytes),
     ];
+    entries[1].last_accepted = 65_536;
+    entries[2].last_accepted = u64::MAX;
+    entries[3].last_accepted = 4_294_967_296;
     let state = Reception::from_unfinished(&entries).unwrap();
     assert_eq!(state.unfinished().collect::<Vec<_>>(), entries);
     let mut turned = entries;
     turned.reverse();
     let other = Reception::from_unfinished(&turned).unwrap();
     assert!(state.keeps_the_same_as(&other));
+    turned[0].last_accepted = 0;
+    let other = Reception::from_unfinished(&turned).unwrap();
+    assert!(!state.keeps_the_same_as(&other));
+    turned[0] = entries[3];
     turned[0].length = 71;
     let other = Reception::from_unfinished(&turned).unwrap();
     assert!(!state.keeps_the_same_as(&other));

@@ -113,6 +113,19 @@ fn refusals_are_printed_and_ignored_frames_are_not() {
 }
 
 #[test]
+fn every_frame_comes_at_tick_0() {
+    // However many lines come between, nothing that is unfinished is dropped.
+    let others = ":X1A22B456N20A8;\n:X1A300123N2080;\nx\n".repeat(30_000);
+    let input = format!(":X1B22B123N20;\n{others}:X1D22B123NA8;\n");
+    let output = format!(
+        "{}:X19A2822BN012300;\n",
+        ":X19A2822BN045600;\n?\n".repeat(30_000)
+    );
+    assert_eq!(answers(&input, 65_536), output);
+    assert_eq!(whole(&input), output);
+}
+
+#[test]
 fn a_long_reply_is_cut() {
     let output = "\
 :X19A2822BN012380;

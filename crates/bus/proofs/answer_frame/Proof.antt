@@ -15,7 +15,7 @@ returns c =
     let h = c .before .before .before .before .before .before .before .before in
     let a = h .before .before .before .before .before .before .before .before .before .before .before .args in
     let x = fixed (a .alias) (a .write-lengths) (spacesIn (a .spaces .now)) (a .flash .now) in
-    let call = frameCall x (a .out .now) (stateIn (a .places .now) (a .pool .now)) (contents (a .memory .now) (a .lock .now)) (canFrame (a .header) (a .payload .now)) in
+    let call = frameCall x (a .out .now) (a .tick) (stateIn (a .places .now) (a .pool .now)) (contents (a .memory .now) (a .lock .now)) (canFrame (a .header) (a .payload .now)) in
     let done = h .handle-frame .ensures in
     let sent = sent-is (a .alias) (sourceOf (a .header)) (a .out .now) (call .answer) (done .0 .answer) (done .0 .reply)
     (c .before .before .before .source-of .ensures .0) (c .frames-to-send .ensures) in

@@ -224,6 +224,10 @@ cases! {
     JoinEmptyPool = "join, empty datagram in the pool", Small;
     /// The longest datagram.
     JoinLongest = "join, datagram of 72 bytes", Small;
+    /// One was dropped for its tick, which a caller has put there.
+    JoinDropped = "join, dropped by its tick", Small;
+    /// One was kept with a tick that a caller has put there.
+    JoinOtherTick = "join, kept with a tick not 0", Small;
 }
 
 /// The kinds of request, in the order of the counts.
@@ -321,7 +325,8 @@ impl ToolTally {
         self.cases[by as usize][case as usize] += 1;
     }
 
-    fn count_if(&mut self, is: bool, case: ToolCase) {
+    /// Counts a case if it is one.
+    pub fn count_if(&mut self, is: bool, case: ToolCase) {
         self.cases[0][case as usize] += u64::from(is);
     }
 

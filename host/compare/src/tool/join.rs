@@ -2,19 +2,28 @@
 //! without spaces that has the tool's alias says what comes of a frame, and its reception state is
 //! the tool's. A board cannot have alias 0 and a tool can: for that one the model is given every alias
 //! with its lowest bit turned over, since nothing but their being equal counts.
+//!
+//! A tool has no ticks: every frame that it joins comes at tick 0, and so at one time for the model.
+//! What its places hold at the start may have any tick.
 
 use crate::ffi::tool::Joined;
 use crate::ffi::{Places, Pool, PLACES, PLACES_SIZE, PLACE_BYTES, POOL_BYTES};
 use crate::generate::{
-    damage_places, rewrite_places, sound_places, tools, Board, Incoming, Tool, LAST_ALIAS,
+    any_held, damage_places, rewrite_places, sound_places, tools, Board, Incoming, Tool, LAST_ALIAS,
 };
 use crate::guarded::Guarded;
-use crate::layout::{self, any_place, set_place, Held};
+use crate::layout::{self, any_place, set_place, Entry};
 use crate::random::Random;
 use crate::setup::{compare_places, hex, in_order, same};
+use crate::times::{any_age, any_due, GREATEST_AGE, ROUND};
 use crate::tool::cases::{ToolCase, ToolTally};
 use crate::tool::Archive;
-use model::{FrameAnswer, HouseNumber, Reception, Unfinished};
+use model::{FrameAnswer, HouseNumber, Reception};
+
+/// The tick that a frame comes at.
+const TICK: u16 = 0;
+/// The time that the model is told for it; of all earlier ticks there is one before it.
+const TIME: u64 = ROUND;
 
 /// What comes of a frame, whichever side joined it.
 #[derive(Clone, Debug, PartialEq, Eq)]
@@ -74,13 +83,13 @@ impl Joiner {
 
     /// What the model says of a frame.
     fn expected(&mut self, frame: &Incoming) -> Outcome {
-        // No frame has such an alias as its destination; the model refuses it before it looks at
-        // the state.
+        // What is dropped before the frame is looked at is no part of a datagram that it finishes.
+        if model::handle_time(&mut self.model, TIME).is_err() {
+            return Outcome::Damaged;
+        }
+        // No frame has such an alias as its destination, and the model refuses it.
         if self.alias > LAST_ALIAS {
-            return match self.model.check() {
-                Ok(()) => Outcome::Ignored,
-                Err(_) => Outcome::Damaged,
-            };
+            return Outcome::Ignored;
         }
         let turned = turned(self.alias);
         let header = frame.header ^ (u32::from(turned) << 12 | u32::from(turned));
@@ -97,6 +106,7 @@ impl Joiner {
             &mut [],
             &mut [0; 6],
             &mut self.model,
+            TIME,
             header,
             &frame.data,
             &mut [0; 72],
@@ -149,7 +159,7 @@ impl Joiner {
                 hex(self.pool.bytes())
             ));
         }
-        self.count(numbers, &expected, tally);
+        self.count(numbers, &expected, &places, tally);
         Ok(expected)
     }
 
@@ -202,28 +212,34 @@ impl Joiner {
         expected: &Outcome,
         before: (&Places, &Pool),
     ) -> Result<(), &'static str> {
-        let (places, pool) = (self.places.array(), self.pool.array());
-        if matches!(expected, Outcome::Damaged | Outcome::Ignored) {
+        let after = (self.places.array(), self.pool.array());
+        let joined = !matches!(expected, Outcome::Damaged | Outcome::Ignored);
+        if *expected == Outcome::Damaged || !joined && !any_due(before.0, TICK) {
             same(
-                (places, pool) == before,
+                after == before,
                 "a frame that is not joined changed the state",
             )?;
         } else {
             // What a board's places have to go through is not counted here.
-            compare_places(before, (places, pool), |_| ())?;
-            let unfinished = turn(self.alias, layout::unfinished(places, pool));
-            same(
-                in_order(unfinished) == in_order(self.model.unfinished()),
-                "the unfinished datagrams differ",
-            )?;
+            compare_places(before, after, TICK, usize::from(joined), |_| ())?;
         }
+        let unfinished = turn(self.alias, layout::unfinished(after.0, after.1));
+        same(
+            in_order(unfinished) == in_order(self.model.unfinished().map(Entry::from)),
+            "the unfinished datagrams differ",
+        )?;
         same(
             self.places.is_intact() && self.pool.is_intact(),
             "a byte outside what was lent is changed",
         )
     }
 
-    fn count(&self, numbers: Joined, expected: &Outcome, tally: &mut ToolTally) {
+    fn count(&self, numbers: Joined, expected: &Outcome, before: &Places, tally: &mut ToolTally) {
+        if *expected != Outcome::Damaged {
+            let mut kept = layout::unfinished(self.places.array(), self.pool.bytes());
+            tally.count_if(any_due(before, TICK), ToolCase::JoinDropped);
+            tally.count_if(kept.any(|at| at.tick != TICK), ToolCase::JoinOtherTick);
+        }
         tally.count(match expected {
             Outcome::Damaged => ToolCase::JoinDamaged,
             Outcome::Ignored if self.alias > LAST_ALIAS => ToolCase::JoinWide,
@@ -250,9 +266,9 @@ const fn turned(alias: u16) -> u16 {
 /// Unfinished datagrams as the model is given them.
 fn turn<'p>(
     alias: u16,
-    entries: impl Iterator<Item = Unfinished<'p>>,
-) -> impl Iterator<Item = Unfinished<'p>> {
-    entries.map(move |entry| Unfinished {
+    entries: impl Iterator<Item = Entry<'p>>,
+) -> impl Iterator<Item = Entry<'p>> {
+    entries.map(move |entry| Entry {
         source: entry.source ^ turned(alias),
         ..entry
     })
@@ -260,7 +276,9 @@ fn turn<'p>(
 
 /// A reception state of the library as one of the model.
 fn for_model(alias: u16, places: &Places, pool: &Pool) -> Reception {
-    let entries: Vec<_> = turn(alias, layout::unfinished(places, pool)).collect();
+    let entries: Vec<_> = turn(alias, layout::unfinished(places, pool))
+        .map(|entry| entry.for_model(TIME))
+        .collect();
     Reception::from_unfinished(&entries).expect("eight places")
 }
 
@@ -340,19 +358,20 @@ impl Listener {
 }
 
 /// Places with nothing unfinished, with some datagrams of these boards, or with as many as there may
-/// be where there are more boards than that.
+/// be where there are more boards than that; with tick 0, or of any age.
 fn places(random: &mut Random, boards: &[Tool]) -> Places {
+    let oldest = random.pick(&[0, 0, GREATEST_AGE, u16::MAX]);
     match random.below(4) {
         0 if boards.len() > PLACES => {
             let mut places = [0; PLACES_SIZE];
             for (index, board) in boards.iter().take(PLACES).enumerate() {
-                let (len, source) = (random.between(0, PLACE_BYTES) as u8, board.source());
-                let held = any_place(random, Some(Held { len, source }));
-                set_place(&mut places, index, held);
+                let age = any_age(random, oldest);
+                let held = any_held(random, board.source(), TICK, age);
+                set_place(&mut places, index, any_place(random, Some(held)));
             }
             places
         }
-        0 | 1 => sound_places(random, boards),
+        0 | 1 => sound_places(random, boards, TICK, oldest),
         _ => [0; PLACES_SIZE],
     }
 }

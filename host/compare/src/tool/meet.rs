@@ -8,6 +8,7 @@ use crate::layout::frame_in;
 use crate::random::Random;
 use crate::setup::{hex, Setup};
 use crate::tally::{By, Tally};
+use crate::times::{GREATEST_AGE, MOST_TICKS};
 use crate::tool::cases::{ToolCase, ToolTally};
 use crate::tool::compose::write;
 use crate::tool::expected::{Asked, Expected};
@@ -167,10 +168,17 @@ pub fn frames(
         None => Due::Rejected,
     };
     let mut joiner = with_room_for(random, tool, board);
-    for frame in frames {
+    for (index, frame) in frames.iter().enumerate() {
         let mut room = [0; SENT_SIZE];
         random.fill(&mut room);
-        let answer = setup.frame(&frame, &buffer(random), &room, tally)?;
+        // A tool that is at it makes no pause for which it would be dropped.
+        let most = if index == 0 {
+            MOST_TICKS
+        } else {
+            u64::from(GREATEST_AGE)
+        };
+        setup.pass(random, most);
+        let answer = setup.frame(archive, frame, &buffer(random), &room, tally)?;
         hear_frames(
             archive,
             setup,
@@ -437,13 +445,14 @@ mod tests {
     use super::*;
     use crate::demonstration::{ALIAS, FLASH, MEMORY_LEN, TABLE, WRITE_LENGTHS};
     use crate::generate::Board;
+    use crate::times::Clock;
     use crate::tool::Library;
 
     /// The demonstration board with any contents.
     fn setup(random: &mut Random) -> Setup {
         let (table, flash) = (TABLE.to_vec(), FLASH.len());
         let board = Board::new(ALIAS, WRITE_LENGTHS, table, flash, MEMORY_LEN);
-        Setup::new(random, board, [0; 64])
+        Setup::new(random, board, [0; 64], Clock::at(0))
     }
 
     /// Asserts that this datagram is answered as is due, and that anything else is not.

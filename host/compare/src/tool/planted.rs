@@ -5,9 +5,12 @@ use crate::ffi::tool::{Acknowledged, Bytes, Composed, Joined, Rejection, Reply};
 use crate::ffi::{Flag, Places, Pool};
 use crate::generate::good_board;
 use crate::guarded::Guarded;
+use crate::layout::Held;
+use crate::planted::{each, keep_ticks, put_back};
 use crate::random::Random;
-use crate::setup::Setup;
+use crate::setup::{Handler, Setup};
 use crate::tally::Tally;
+use crate::times::Clock;
 use crate::tool::join::Listener;
 use crate::tool::request::Request;
 use crate::tool::said::NOTHING;
@@ -77,10 +80,13 @@ enum Fault {
     OutOfOrderAsTooLong,
     DamagedAsIgnored,
     PoolChangedWhereIgnored,
+    OldKept,
+    OldKeptWhereIgnored,
+    TickKeptWhereJoined,
 }
 
 /// All of them, and how the report on each begins.
-const FAULTS: [(Fault, &str); 56] = [
+const FAULTS: [(Fault, &str); 59] = [
     (Fault::Byte6ForFd, WRITTEN),
     (Fault::W2BeforeW1, WRITTEN),
     (Fault::W2OnlyWhereItDoesNotFit, WRITTEN),
@@ -137,6 +143,9 @@ const FAULTS: [(Fault, &str); 56] = [
     (Fault::PoolEndOneLess, POOL),
     (Fault::PlaceNotFreed, HELD),
     (Fault::PoolChangedWhereIgnored, STATE),
+    (Fault::OldKept, OLD),
+    (Fault::OldKeptWhereIgnored, OLD),
+    (Fault::TickKeptWhereJoined, TICKS),
 ];
 const WRITTEN: &str = "writing a command: the answers differ";
 const BUFFERS: &str = "writing a command: the buffers differ";
@@ -148,6 +157,8 @@ const JOINED: &str = "joining a frame: the answers differ";
 const POOL: &str = "joining a frame: the datagram is not where it is said to be";
 const HELD: &str = "joining a frame: the pool is changed for a place that did not change";
 const STATE: &str = "joining a frame: a frame that is not joined changed the state";
+const OLD: &str = "joining a frame: a place with something due is not dropped";
+const TICKS: &str = "joining a frame: a place that changed has another tick than the call";
 
 const YES: Flag = Flag::of(true);
 const NO: Flag = Flag::of(false);
@@ -254,6 +265,8 @@ impl Planted {
         reply
     }
 }
+
+impl Handler for Planted {}
 
 impl Archive for Planted {
     fn compose(&self, request: &Request, buffer: &mut Guarded) -> Composed {
@@ -364,8 +377,15 @@ impl Archive for Planted {
         payload: &[u8],
     ) -> Joined {
         let before = *places;
+        if self.0 == Fault::OldKept {
+            each(places, |held| Some(Held { tick: 0, ..held }));
+        }
+        let seen = *places;
         let mut joined = Library.join(alias, pool, places, header, payload);
+        put_back(&before, &seen, places);
         match (self.0, joined.kind) {
+            (Fault::OldKeptWhereIgnored, 1) => *places = before,
+            (Fault::TickKeptWhereJoined, 2) => keep_ticks(&before, places),
             (Fault::PoolStartOneMore, 5) => joined.start += 1,
             (Fault::PoolEndOneLess, 5) => joined.end = joined.end.saturating_sub(1),
             (Fault::FinishedAsPart, 4) => joined.kind = 2,
@@ -395,7 +415,7 @@ impl Bench {
         let mut random = Random::new(seed);
         let board = good_board(&mut random);
         Self {
-            setup: Setup::new(&mut random, board, [0; 64]),
+            setup: Setup::new(&mut random, board, [0; 64], Clock::at(0)),
             listener: Listener::new(&mut random),
             tally: Tally::default(),
             random,

@@ -3,8 +3,8 @@
 #![allow(dead_code)]
 
 use model::{
-    demo_board, handle_datagram, handle_frame, Answer, Description, FrameAnswer, HouseNumber,
-    Reception, Space, Unfinished,
+    demo_board, handle_datagram, handle_frame, handle_time, Answer, Description, FrameAnswer,
+    HouseNumber, Reception, Space, Unfinished,
 };
 
 /// What fills a reply buffer before a call.
@@ -56,6 +56,8 @@ pub struct Bench {
     pub lock: [u8; 6],
     pub reception: Reception,
     pub reply: Vec<u8>,
+    /// The time that frames and lone ticks come with.
+    pub time: u64,
 }
 
 impl Bench {
@@ -70,6 +72,7 @@ impl Bench {
             lock: board.lock,
             reception: board.reception,
             reply: vec![FILL; 80],
+            time: 0,
         }
     }
 
@@ -108,10 +111,15 @@ impl Bench {
             &mut self.memory,
             &mut self.lock,
             &mut self.reception,
+            self.time,
             header,
             data,
             &mut self.reply,
         )
+    }
+
+    pub fn lone_tick(&mut self) -> Result<(), HouseNumber> {
+        handle_time(&mut self.reception, self.time)
     }
 
     /// Sends a datagram and gives the answer as text: `rejected 1080`, `written 3+2` for two bytes
@@ -170,6 +178,17 @@ impl Bench {
         assert_eq!(places(self), places(before));
     }
 
+    /// The sources in the reception state and the times of their last accepted frames, sorted.
+    pub fn times(&self) -> Vec<(u16, u64)> {
+        let mut times: Vec<_> = self
+            .reception
+            .unfinished()
+            .map(|entry| (entry.source, entry.last_accepted))
+            .collect();
+        times.sort_unstable();
+        times
+    }
+
     /// The entries of the reception state, sorted.
     pub fn kept(&self) -> Vec<(u16, Vec<u8>)> {
         let mut kept: Vec<_> = self
@@ -190,6 +209,7 @@ pub fn entry(source: u16, length: usize, bytes: &[u8]) -> Unfinished<'_> {
         source,
         length,
         bytes,
+        last_accepted: 0,
     }
 }
 

@@ -14,7 +14,7 @@ returns c =
     let n = c .before .before .before in
     let e = n .before .before .before .before in
     let a = e .args in
-    step-joins (a .source) (a .i) (a .payload .now) (a .pool .now) (a .places .now) (e .pre .0) (e .pre .1) (e .pre .2) (a .role) (n .len-at .result) (n .len-at .ensures)
+    step-joins (a .source) (a .i) (a .payload .now) (a .tick) (a .pool .now) (a .places .now) (e .pre .0) (e .pre .1) (e .pre .2) (a .role) (n .len-at .result) (n .len-at .ensures)
     does.Ignore (sym (c .enum-told .given .1) ∙ c .before .before .step-of .ensures) outcome.Ignored _ _ (stays-joins (a .payload .now) (a .pool .now) (a .places .now) outcome.Ignored tt)
 
 returns-2 : tie.Need-returns-2
@@ -22,7 +22,7 @@ returns-2 c =
     let n = c .before .before .before in
     let e = n .before .before .before .before in
     let a = e .args in
-    step-joins (a .source) (a .i) (a .payload .now) (a .pool .now) (a .places .now) (e .pre .0) (e .pre .1) (e .pre .2) (a .role) (n .len-at .result) (n .len-at .ensures)
+    step-joins (a .source) (a .i) (a .payload .now) (a .tick) (a .pool .now) (a .places .now) (e .pre .0) (e .pre .1) (e .pre .2) (a .role) (n .len-at .result) (n .len-at .ensures)
     does.Deliver (sym (c .enum-told2 .given .1) ∙ c .before .before .step-of .ensures) outcome.InFrame _ _ (stays-joins (a .payload .now) (a .pool .now) (a .places .now) outcome.InFrame tt)
 
 returns-3 : tie.Need-returns-3
@@ -31,7 +31,7 @@ returns-3 c =
     let n = t .before .before .before in
     let e = n .before .before .before .before in
     let a = e .args in
-    step-joins (a .source) (a .i) (a .payload .now) (a .pool .now) (a .places .now) (e .pre .0) (e .pre .1) (e .pre .2) (a .role) (n .len-at .result) (n .len-at .ensures)
+    step-joins (a .source) (a .i) (a .payload .now) (a .tick) (a .pool .now) (a .places .now) (e .pre .0) (e .pre .1) (e .pre .2) (a .role) (n .len-at .result) (n .len-at .ensures)
     does.Open (sym (t .enum-told3 .given .1) ∙ t .before .before .step-of .ensures) _ _ _ (c .before .before .«open» .ensures)
 
 append-requires : tie.Need-append-requires
@@ -41,7 +41,7 @@ append-requires c κs =
     let e = n .before .before .before .before in
     let a = e .args in (
       search needs,
-      step-fitting (a .source) (a .i) (a .payload .now) (a .pool .now) (a .places .now) (e .pre .0) (e .pre .1) (e .pre .2) (a .role) (n .len-at .result) (n .len-at .ensures)
+      step-fitting (a .source) (a .i) (a .payload .now) (a .tick) (a .pool .now) (a .places .now) (e .pre .0) (e .pre .1) (e .pre .2) (a .role) (n .len-at .result) (n .len-at .ensures)
           false (sym (t .enum-told4 .given .1) ∙ t .before .before .step-of .ensures),
     )
 
@@ -51,7 +51,7 @@ returns-4 c =
     let n = t .before .before .before in
     let e = n .before .before .before .before in
     let a = e .args in
-    step-joins (a .source) (a .i) (a .payload .now) (a .pool .now) (a .places .now) (e .pre .0) (e .pre .1) (e .pre .2) (a .role) (n .len-at .result) (n .len-at .ensures)
+    step-joins (a .source) (a .i) (a .payload .now) (a .tick) (a .pool .now) (a .places .now) (e .pre .0) (e .pre .1) (e .pre .2) (a .role) (n .len-at .result) (n .len-at .ensures)
     does.Append (sym (t .enum-told4 .given .1) ∙ t .before .before .step-of .ensures) _ _ _ (c .before .before .append .ensures)
 
 close-requires : tie.Need-close-requires
@@ -61,7 +61,7 @@ close-requires c κs =
     let e = n .before .before .before .before in
     let a = e .args in (
       search needs,
-      step-fitting (a .source) (a .i) (a .payload .now) (a .pool .now) (a .places .now) (e .pre .0) (e .pre .1) (e .pre .2) (a .role) (n .len-at .result) (n .len-at .ensures)
+      step-fitting (a .source) (a .i) (a .payload .now) (a .tick) (a .pool .now) (a .places .now) (e .pre .0) (e .pre .1) (e .pre .2) (a .role) (n .len-at .result) (n .len-at .ensures)
           true (sym (t .enum-told5 .given .1) ∙ t .before .before .step-of .ensures),
     )
 
@@ -71,7 +71,7 @@ returns-5 c =
     let n = t .before .before .before in
     let e = n .before .before .before .before in
     let a = e .args in
-    step-joins (a .source) (a .i) (a .payload .now) (a .pool .now) (a .places .now) (e .pre .0) (e .pre .1) (e .pre .2) (a .role) (n .len-at .result) (n .len-at .ensures)
+    step-joins (a .source) (a .i) (a .payload .now) (a .tick) (a .pool .now) (a .places .now) (e .pre .0) (e .pre .1) (e .pre .2) (a .role) (n .len-at .result) (n .len-at .ensures)
     does.Close (sym (t .enum-told5 .given .1) ∙ t .before .before .step-of .ensures) _ _ _ (c .before .before .close .ensures)
 
 returns-6 : tie.Need-returns-6
@@ -80,9 +80,9 @@ returns-6 c =
     let n = t .before .before .before in
     let e = n .before .before .before .before in
     let a = e .args in
-    step-joins (a .source) (a .i) (a .payload .now) (a .pool .now) (a .places .now) (e .pre .0) (e .pre .1) (e .pre .2) (a .role) (n .len-at .result) (n .len-at .ensures)
+    step-joins (a .source) (a .i) (a .payload .now) (a .tick) (a .pool .now) (a .places .now) (e .pre .0) (e .pre .1) (e .pre .2) (a .role) (n .len-at .result) (n .len-at .ensures)
     _ (sym (t .code .given .1) ∙ t .before .before .step-of .ensures) _ _ _
-    (refused-joins (a .source) (a .i) (a .payload .now) (a .pool .now) (a .places .now) (e .pre .0) (e .pre .1) (e .pre .2) _ (c .refuse .result) _ (search needs) (c .refuse .ensures .0) (c .refuse .ensures .1))
+    (refused-joins (a .source) (a .i) (a .payload .now) (a .tick) (a .pool .now) (a .places .now) (e .pre .0) (e .pre .1) (e .pre .2) _ (c .refuse .result) _ (search needs) (c .refuse .ensures .0) (c .refuse .ensures .1))
 
 pub join-sound-spec : {M : Type 1} → statement M
 join-sound-spec =

@@ -1,0 +1,53 @@
+-- Demand 3 of document 01, with C-14 of document 02: the calls of a driver, the order statement over a list of them, and what becomes of
+-- unfinished datagrams that grow old.
+use Prim.Native.Nat.{ℕ, _≤_}
+use mathlib.Core.List.{List}
+use mathlib.Core.Path.{_≡_}
+use lib.ListN.{length}
+use Rattle.house.specs.HouseNumbers.{descriptionHouse}
+use Rattle.house.specs.declared.HouseNumber.{HouseNumber}
+use Rattle.house.specs.declared.HouseNumber.the-variants.{Good, B7}
+use Rattle.frame.specs.Frame.{CanFrame}
+use Rattle.reception.specs.Ticks.{tickAt}
+use Rattle.reception.specs.Times.{frameInput, loneTick, Timed, timed}
+use Rattle.reception.specs.Reception.{State}
+use Rattle.reception.specs.Order.{FrameResult, OrderStatement}
+use Rattle.reception.specs.Aging.{TrueAges, EightFree}
+use Rattle.answer.specs.Answers.{Result}
+use Rattle.handling.specs.Handling.{Fixed, Contents}
+use Rattle.call.specs.FrameCall.{handler, frameCall}
+use Rattle.call.specs.TickCall.{tickCall}
+
+-- A call of the driver at a time: a frame, and the reply buffer lent for it; or a tick alone.
+pub data Call : Type 0 where
+  frameAt : ℕ → CanFrame → List ℕ → Call
+  loneTickAt : ℕ → Call
+
+-- What the books may hear of it.
+abbrev pub heardOf : Call → Timed
+heardOf (frameAt t f buffer) = timed t (frameInput f)
+heardOf (loneTickAt t) = timed t loneTick
+
+-- "the reply buffer", where one is lent, is of at least 72 bytes.
+abbrev pub BufferFits : Call → Type 0
+BufferFits (frameAt t f buffer) = 72 ≤ length buffer
+BufferFits (loneTickAt t) = Unit {0}
+
+-- The call made: the tick that the driver hands in is the time modulo 65,536.
+abbrev pub makeCall : Fixed → State → Contents → Call → FrameResult HouseNumber Contents Result
+makeCall x st c (frameAt t f buffer) = frameCall x buffer (tickAt t) st c f
+makeCall x st c (loneTickAt t) = tickCall (tickAt t) st c
+
+-- The order statement of these calls: for every description that no house number refuses with flash and a memory of m bytes, every list of
+-- calls, each frame with a buffer of at least 72 bytes, whose times never fall and are fewer than 62,000 ticks apart, from a state with nothing
+-- unfinished, while at most eight tools are unfinished by their books.
+abbrev pub NodeOrder : Fixed → Type 0
+NodeOrder x =
+    (m : ℕ) → descriptionHouse (x .alias) (x .spaces) (length (x .flash)) m ≡ Good
+    → OrderStatement heardOf BufferFits (λ c. length (c .memory) ≡ m) B7 (handler x) (x .alias) (makeCall x)
+
+-- Of every list of these calls that no house number refuses, whatever the description and the buffers: the wrapping age is the true age, and
+-- eight places are free once frames stop being accepted.
+pub record NodeAging (x : Fixed) : Type 0 where
+  pub ages : TrueAges heardOf (makeCall x)
+  pub eight-free : EightFree heardOf (makeCall x)

@@ -1,0 +1,54 @@
+// The unfinished datagrams that are due to be dropped: those whose source's last accepted frame is more than 3,000 ticks back.
+ghost use mathlib.Core.Path.{_≡_};
+ghost use mathlib.Core.Bool.{cond};
+ghost use Prim.Native.Nat.{_*_};
+ghost use lib.ListN.{getD};
+ghost use Rattle.buffer.specs.Buffer.{placed};
+ghost use Rattle.reception.specs.Place.{freePlace};
+ghost use Rattle.reception.specs.Ticks.{age, isDue, dropDue};
+ghost use Rattle.reception.specs.PlaceBytes.{placesIn, placeBytes, renewed};
+
+const PLACES: usize = 8;
+
+// The most ticks that the last accepted frame may be back.
+const LONGEST: u16 = 3000;
+
+// How many ticks `now` is after `then`: the count goes from 65,535 to 0.
+fn age_of(now: u16, then: u16) -> u16
+    ensures { λ r. ⌜ r ≡ age now then ⌝ }
+{
+    std::num::wrapping_sub_u16(now, then)
+}
+
+// Whether place i holds a datagram that is due at the tick.
+pub fn is_due(places: &[u8; 64], i: usize, tick: u16) -> bool
+    ensures { λ r. ⌜ r ≡ isDue tick (getD (placesIn (now (places .entry))) i freePlace) ⌝ }
+{
+    if !places::is_held(places, i) {
+        return false;
+    }
+    LONGEST < age_of(tick, places::tick_at(places, i))
+}
+
+// Place i freed where it is said to be due.
+fn free_where(places: &mut [u8], i: usize, due: bool)
+    ensures { λ _. ⌜ now (places .exit) ≡ cond due (placed (8 * i) (placeBytes freePlace) (now (places .entry))) (now (places .entry)) ⌝ }
+{
+    if !due {
+        return;
+    }
+    holding::free(places, i);
+}
+
+// Every place freed that holds a datagram that is due. A place that is not changed keeps all its bytes.
+pub fn drop_due(places: &mut [u8; 64], tick: u16)
+    ensures places { λ _. ⌜ placesIn (now (places .exit)) ≡ dropDue tick (placesIn (now (places .entry))) ⌝ }
+    ensures renewal { λ _. ⌜ now (places .exit) ≡ renewed (dropDue tick (placesIn (now (places .entry)))) (now (places .entry)) ⌝ }
+{
+    let mut i: usize = 0;
+    while i < PLACES {
+        let due = is_due(places, i, tick);
+        free_where(places, i, due);
+        i += 1;
+    }
+}

@@ -1,0 +1,507 @@
+//! Holds what change request C-14 says of ticks, by the bytes of the places alone and shared with
+//! neither side: how old what a place holds is, and whether it is due. Also the time of a world,
+//! which is the full count of ticks, and the counts of what is to be seen of times.
+
+use crate::answer::Answer;
+use crate::ffi::{Places, PLACES};
+use crate::generate::Incoming;
+use crate::layout::{held, place, Held};
+use crate::random::Random;
+use crate::tally::{Case, Tally};
+
+/// The greatest age that stays.
+pub const GREATEST_AGE: u16 = 3_000;
+/// The most ticks between two calls that bring one and that no house number refuses.
+pub const MOST_TICKS: u64 = 61_999;
+/// After so many ticks the count of a driver is the same again.
+pub const ROUND: u64 = 65_536;
+
+/// How many ticks back the last accepted frame of what a place holds is.
+#[must_use]
+pub const fn age(held: Held, tick: u16) -> u16 {
+    ((ROUND + tick as u64 - held.tick as u64) % ROUND) as u16
+}
+
+/// Whether what a place holds is to be dropped at this tick.
+#[must_use]
+pub const fn is_due(held: Held, tick: u16) -> bool {
+    age(held, tick) > GREATEST_AGE
+}
+
+/// Whether anything in these places is to be dropped at this tick.
+#[must_use]
+pub fn any_due(places: &Places, tick: u16) -> bool {
+    (0..PLACES).any(|index| held(place(places, index)).is_some_and(|held| is_due(held, tick)))
+}
+
+/// The time of a world. It never falls, and a refused call does not count as one that brings it.
+#[derive(Clone, Copy, Debug)]
+pub struct Clock {
+    time: u64,
+    /// The time of the last call that was not refused.
+    last: u64,
+    /// Whether one was refused since then.
+    refused: bool,
+    /// Once in so many times more than a few ticks pass.
+    pace: usize,
+}
+
+impl Clock {
+    /// A clock that has this time.
+    #[must_use]
+    pub const fn at(time: u64) -> Self {
+        Self {
+            time,
+            last: time,
+            refused: false,
+            pace: 1,
+        }
+    }
+
+    /// The clock of a world, fast or slow.
+    pub fn new(random: &mut Random) -> Self {
+        Self {
+            pace: random.pick(&[1, 4, 20, 60, 200, 400]),
+            ..Self::at(start(random))
+        }
+    }
+
+    /// The full time.
+    #[must_use]
+    pub const fn time(&self) -> u64 {
+        self.time
+    }
+
+    /// What a driver's count says at this time.
+    #[must_use]
+    pub const fn tick(&self) -> u16 {
+        self.time as u16
+    }
+
+    /// How many ticks ago the last call was that was not refused.
+    #[must_use]
+    pub const fn since(&self) -> u64 {
+        self.time - self.last
+    }
+
+    /// Notes that a call has brought this time, and whether it was refused.
+    pub const fn brought(&mut self, refused: bool) {
+        if !refused {
+            self.last = self.time;
+        }
+        self.refused = refused;
+    }
+
+    /// Lets ticks pass, at most so many and no more than there may be before the next call: few, or
+    /// so many that the count goes round or that the age of something in these places comes to an
+    /// edge.
+    pub fn pass(&mut self, random: &mut Random, places: &Places, most: u64) {
+        let ticks = if random.once_in(self.pace) {
+            self.ticks_to_an_edge(random, places)
+        } else {
+            random.pick(&[0, 0, 0, 1, 1, 2, 7, 40])
+        };
+        self.time += ticks.min(most).min(MOST_TICKS - self.since());
+    }
+
+    fn ticks_to_an_edge(&self, random: &mut Random, places: &Places) -> u64 {
+        let left_of_round = ROUND - self.time % ROUND;
+        match random.below(12) {
+            0..=4 => {
+                let edge: u64 = random.pick(&[2_999, 3_000, 3_000, 3_001, 3_001, 3_002]);
+                let first = random.below(PLACES);
+                let age = (first..first + PLACES)
+                    .find_map(|index| held(place(places, index % PLACES)))
+                    .map_or(0, |held| age(held, self.tick()));
+                edge.saturating_sub(u64::from(age))
+            }
+            5 | 6 => random.pick(&[0, 1, 2_999, 3_000, 3_001, 6_000, 6_001]),
+            7 => MOST_TICKS,
+            // To the last tick of the round, to 0 or to 1.
+            8 => left_of_round - 1 + random.below(3) as u64,
+            // So that what is accepted then can be kept into the next round.
+            9 => left_of_round.saturating_sub(random.below(3_002) as u64),
+            10 => random.below(3_001) as u64,
+            _ => random.below(62_000) as u64,
+        }
+    }
+}
+
+/// A time to begin at: of an early round or a late one, also around the end of 32 bits, and often
+/// near an end of its round.
+pub fn start(random: &mut Random) -> u64 {
+    let round = match random.below(4) {
+        0 => 0,
+        1 => random.below(4) as u64,
+        2 => random.pick(&[0xFFFF, 0x1_0000]),
+        _ => random.number() >> 17,
+    };
+    let within = match random.below(4) {
+        0 => random.below(4_000),
+        1 => ROUND as usize - 1 - random.below(4_000),
+        2 => random.pick(&[0, 1, 2_999, 3_000, 3_001, 32_768, 62_535, 62_536, 65_535]),
+        _ => random.below(ROUND as usize),
+    };
+    ROUND * round + within as u64
+}
+
+/// An age, often next to an edge, and at most this one.
+pub fn any_age(random: &mut Random, oldest: u16) -> u16 {
+    let age = match random.below(4) {
+        0 => random.pick(&[
+            0, 1, 2_999, 3_000, 3_001, 3_002, 32_767, 32_768, 61_999, 62_000, 64_999, 65_535,
+        ]),
+        1 => random.below(3_100) as u16,
+        2 => u16::MAX - random.below(3_100) as u16,
+        _ => random.half(),
+    };
+    age.min(oldest)
+}
+
+/// Counts what is to be seen of times in a call on places that have no past: with ages that no call
+/// of a good driver finds.
+pub fn count_old(call: &Call, tally: &mut Tally) {
+    let ages: Vec<u16> = (0..PLACES)
+        .filter_map(|index| held(place(call.before, index)))
+        .map(|held| age(held, call.clock.tick()))
+        .collect();
+    let due = ages.iter().filter(|&&age| age > GREATEST_AGE).count();
+    for (is, case) in [
+        (call.frame.is_none(), Case::OldTick),
+        (call.frame.is_some(), Case::OldFrame),
+        (due != ages.len(), Case::OldKept),
+        (due != 0, Case::OldDropped),
+        (due == PLACES, Case::OldEight),
+        (ages.iter().any(|&age| age >= 65_000), Case::Old65000),
+        (ages.contains(&u16::MAX), Case::OldMost),
+    ] {
+        tally.count_if(is, case);
+    }
+}
+
+/// What is known of what a place holds beside the place itself.
+#[derive(Clone, Copy, Debug, Default)]
+struct Past {
+    /// When its First came, if that was seen.
+    opened: Option<u64>,
+    /// When a frame of its source was ignored, if one was since its last accepted one.
+    ignored: Option<u64>,
+    /// When a frame of another source got a transport refusal, if one did since then.
+    refused: Option<u64>,
+}
+
+/// The past of all places.
+#[derive(Clone, Copy, Debug, Default)]
+pub struct Pasts([Past; PLACES]);
+
+/// A call that brought a tick and that no house number refused.
+#[derive(Clone, Copy, Debug)]
+pub struct Call<'c> {
+    /// The clock at the call.
+    pub clock: Clock,
+    /// The places before it.
+    pub before: &'c Places,
+    /// The places after it.
+    pub after: &'c Places,
+    /// Its answer.
+    pub answer: Answer,
+    /// The frame, if the tick did not come alone.
+    pub frame: Option<&'c Incoming>,
+}
+
+/// The cases of how a tick came: with a frame that is not ignored, with one that is, alone.
+struct Cases {
+    dropped: Case,
+    kept_3000: Case,
+    dropped_3001: Case,
+}
+
+impl Call<'_> {
+    const fn cases(&self) -> Cases {
+        match (self.frame, self.answer) {
+            (None, _) => Cases {
+                dropped: Case::DroppedByTick,
+                kept_3000: Case::Kept3000ByTick,
+                dropped_3001: Case::Dropped3001ByTick,
+            },
+            (Some(_), Answer::Ignored) => Cases {
+                dropped: Case::DroppedByIgnored,
+                kept_3000: Case::Kept3000ByIgnored,
+                dropped_3001: Case::Dropped3001ByIgnored,
+            },
+            (Some(_), _) => Cases {
+                dropped: Case::DroppedByFrame,
+                kept_3000: Case::Kept3000ByFrame,
+                dropped_3001: Case::Dropped3001ByFrame,
+            },
+        }
+    }
+
+    /// Whether there is a frame and its source is this one, whatever else its header says.
+    fn is_of(&self, source: u16) -> bool {
+        self.frame
+            .is_some_and(|frame| frame.header & 0xFFF == u32::from(source))
+    }
+}
+
+impl Pasts {
+    /// Counts what is to be seen of times in a call, and notes what is to be known of it later.
+    pub fn count(&mut self, call: &Call, tally: &mut Tally) {
+        let (time, tick) = (call.clock.time(), call.clock.tick());
+        let late = time > u64::from(u32::MAX);
+        let cases = call.cases();
+        let within =
+            |since: Option<u64>| since.is_some_and(|since| time - since <= u64::from(GREATEST_AGE));
+        let (mut kept, mut dropped) = (0, 0);
+        let (mut at_3000, mut at_3001, mut own_dropped) = (false, false, false);
+        for (index, past) in self.0.iter().enumerate() {
+            let Some(held) = held(place(call.before, index)) else {
+                continue;
+            };
+            let (age, round) = (age(held, tick), held.tick > tick);
+            if age <= GREATEST_AGE {
+                kept += 1;
+                at_3000 |= age == 3_000;
+                let renewed = past.opened.is_some() && !within(past.opened);
+                for (is, case) in [
+                    (age == 3_000, cases.kept_3000),
+                    (round, Case::RoundKept),
+                    (late, Case::LateKept),
+                    (renewed, Case::Renewed),
+                ] {
+                    tally.count_if(is, case);
+                }
+            } else {
+                dropped += 1;
+                at_3001 |= age == 3_001;
+                own_dropped |= call.is_of(held.source);
+                for (is, case) in [
+                    (true, cases.dropped),
+                    (age == 3_001, cases.dropped_3001),
+                    (round, Case::RoundDropped),
+                    (late, Case::LateDropped),
+                    (within(past.ignored), Case::IgnoredSince),
+                    (within(past.refused), Case::RefusedSince),
+                ] {
+                    tally.count_if(is, case);
+                }
+            }
+        }
+        for (is, case) in [
+            (call.clock.since() == MOST_TICKS, Case::LongestGap),
+            (call.clock.refused, Case::RefusedBetween),
+            (dropped == PLACES, Case::EightDropped),
+            (dropped != 0 && kept != 0, Case::DroppedBeside),
+            (at_3000 && at_3001, Case::BothEdges),
+        ] {
+            tally.count_if(is, case);
+        }
+        let full = dropped != 0 && kept + dropped == PLACES;
+        count_frame(call, own_dropped, full, tally);
+        self.note(call);
+    }
+
+    /// Notes what is to be known later of what the places hold.
+    fn note(&mut self, call: &Call) {
+        let time = call.clock.time();
+        for (index, past) in self.0.iter_mut().enumerate() {
+            let was = held(place(call.before, index));
+            let Some(is) = held(place(call.after, index)) else {
+                *past = Past::default();
+                continue;
+            };
+            if was == Some(is) {
+                match call.answer {
+                    Answer::Ignored if call.is_of(is.source) => past.ignored = Some(time),
+                    Answer::TransportRefusal(_) => past.refused = Some(time),
+                    _ => {}
+                }
+                continue;
+            }
+            // A First; or a Middle, before which the tick has dropped nothing.
+            let continued = was.is_some_and(|was| !is_due(was, call.clock.tick()));
+            *past = Past {
+                opened: if continued { past.opened } else { Some(time) },
+                ..Past::default()
+            };
+        }
+    }
+}
+
+/// Counts what is to be seen of a frame before which the datagram of its own source was dropped, or
+/// one of eight.
+fn count_frame(call: &Call, own_dropped: bool, full: bool, tally: &mut Tally) {
+    let kind = call.frame.map_or(0, |frame| frame.header >> 24);
+    let (joined, stray) = (
+        call.answer == Answer::Nothing,
+        call.answer == Answer::TransportRefusal(0x2040),
+    );
+    for (is, case) in [
+        (
+            own_dropped && kind == 0x1A && call.answer.is_of_datagram(),
+            Case::SingleAfterDrop,
+        ),
+        (own_dropped && kind == 0x1B && joined, Case::FirstAfterDrop),
+        (own_dropped && kind == 0x1C && stray, Case::MiddleAfterDrop),
+        (own_dropped && kind == 0x1D && stray, Case::LastAfterDrop),
+        (full && kind == 0x1B && joined, Case::RoomAfterDrop),
+    ] {
+        tally.count_if(is, case);
+    }
+}
+
+#[cfg(test)]
+mod tests {
+    use super::*;
+    use crate::ffi::PLACES_SIZE;
+    use crate::layout::{canonical, set_place};
+
+    const fn of(tick: u16) -> Held {
+        Held {
+            len: 0,
+            source: 1,
+            tick,
+        }
+    }
+
+    #[test]
+    fn exactly_3000_stays() {
+        for tick in [0, 1, 2_999, 3_000, 3_001, 32_768, 62_535, 65_535] {
+            for ticks in 0..=u16::MAX {
+                let held = of(tick);
+                let now = (u64::from(tick) + u64::from(ticks)) % ROUND;
+                assert_eq!(age(held, now as u16), ticks);
+                assert_eq!(is_due(held, now as u16), ticks > 3_000);
+            }
+        }
+        let mut places = [0; PLACES_SIZE];
+        assert!(!any_due(&places, 40_000));
+        set_place(&mut places, 7, canonical(Some(of(65_535))));
+        assert!(!any_due(&places, 2_999));
+        assert!(any_due(&places, 3_000));
+        // A place that is free is not due, whatever its bytes are.
+        places[56] = 0;
+        assert!(!any_due(&places, 3_000));
+    }
+
+    /// Places whose first ones hold something of sources 1, 2 and so on, with these lengths and
+    /// ticks.
+    fn places(what: &[(u8, u16)]) -> Places {
+        let mut places = [0; PLACES_SIZE];
+        for (index, &(len, tick)) in what.iter().enumerate() {
+            let source = index as u16 + 1;
+            set_place(
+                &mut places,
+                index,
+                canonical(Some(Held { len, source, tick })),
+            );
+        }
+        places
+    }
+
+    #[test]
+    fn what_is_to_be_seen_of_times() {
+        let (mut pasts, mut tally) = (Pasts::default(), Tally::default());
+        let mut clock = Clock::at(0);
+        let mut now: Places = [0; PLACES_SIZE];
+        // At this time, with this header or none, these are unfinished afterwards.
+        let mut at = |time, header: Option<u32>, answer, what: &[(u8, u16)]| {
+            clock.time = time;
+            let after = places(what);
+            let frame = header.map(|header| Incoming {
+                header,
+                data: vec![0],
+            });
+            let call = Call {
+                clock,
+                before: &now,
+                after: &after,
+                answer,
+                frame: frame.as_ref(),
+            };
+            pasts.count(&call, &mut tally);
+            clock.brought(false);
+            now = after;
+            let counted = Case::of_times().filter(|&case| tally.counted(case) != 0);
+            let counted: Vec<Case> = counted.collect();
+            tally = Tally::default();
+            counted
+        };
+        let (joined, refused) = (Answer::Nothing, Answer::TransportRefusal(0x2040));
+        let [first, middle] = [0x1B22_B001, 0x1C22_B001].map(Some);
+        let round = 65_536;
+        assert_eq!(at(65_000, first, joined, &[(1, 65_000)]), []);
+        // Another is refused, one's own is ignored: the tick stays.
+        assert_eq!(
+            at(65_001, middle.map(|m| m + 1), refused, &[(1, 65_000)]),
+            []
+        );
+        let ignored = middle.map(|middle| middle ^ 0x1000);
+        let seen = at(65_002, ignored, Answer::Ignored, &[(1, 65_000)]);
+        assert_eq!(seen, []);
+        let seen = at(68_000, None, joined, &[(1, 65_000)]);
+        assert_eq!(seen, [Case::Kept3000ByTick, Case::RoundKept]);
+        let seen = at(68_001, None, joined, &[]);
+        let expected = [
+            Case::DroppedByTick,
+            Case::Dropped3001ByTick,
+            Case::RoundDropped,
+            Case::IgnoredSince,
+            Case::RefusedSince,
+        ];
+        assert_eq!(seen, expected);
+        // A Middle renews, and what came before it does not count.
+        let start = round + 10_000;
+        assert_eq!(at(start, first, joined, &[(1, 10_000)]), []);
+        assert_eq!(at(start + 1, ignored, Answer::Ignored, &[(1, 10_000)]), []);
+        assert_eq!(at(start + 2_000, middle, joined, &[(2, 12_000)]), []);
+        let seen = at(start + 3_001, None, joined, &[(2, 12_000)]);
+        assert_eq!(seen, [Case::Renewed]);
+        // A First after the drop opens it anew.
+        let seen = at(start + 5_001, first, joined, &[(2, 15_001)]);
+        let expected = [
+            Case::DroppedByFrame,
+            Case::Dropped3001ByFrame,
+            Case::FirstAfterDrop,
+        ];
+        assert_eq!(seen, expected);
+        assert_eq!(
+            at(start + 8_001, None, joined, &[(2, 15_001)]),
+            [Case::Kept3000ByTick]
+        );
+        let seen = at(start + 70_000, middle, refused, &[]);
+        let expected = [
+            Case::DroppedByFrame,
+            Case::RoundDropped,
+            Case::MiddleAfterDrop,
+            Case::LongestGap,
+        ];
+        assert_eq!(seen, expected);
+    }
+
+    #[test]
+    fn no_gap_is_too_long() {
+        let mut random = Random::new(14);
+        let (mut longest, mut rounds) = (0, 0);
+        for _ in 0..200 {
+            let mut clock = Clock::new(&mut random);
+            let places = [0; PLACES_SIZE];
+            for _ in 0..200 {
+                let before = clock;
+                clock.pass(&mut random, &places, u64::MAX);
+                assert!(clock.time() >= before.time());
+                assert!(clock.since() <= MOST_TICKS);
+                longest += usize::from(clock.since() == MOST_TICKS);
+                rounds += usize::from(clock.time() / ROUND != before.time() / ROUND);
+                // A call that is refused does not count.
+                let (refused, since) = (random.once_in(3), clock.since());
+                clock.brought(refused);
+                assert_eq!(clock.since(), if refused { since } else { 0 });
+                let before = clock;
+                clock.pass(&mut random, &places, 3_000);
+                assert!(clock.time() - before.time() <= 3_000);
+            }
+        }
+        assert!(longest > 100 && rounds > 100, "{longest}, {rounds}");
+    }
+}
