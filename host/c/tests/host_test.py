@@ -6,6 +6,7 @@ Usage: python3 host_test.py HOST [STEP]
 The session is cut at every size of a read that is STEP or a multiple of it: at each one if it is left out.
 """
 
+import contextlib
 import fcntl
 import os
 import resource
@@ -245,8 +246,12 @@ class Hub:
     def connections(self):
         """How many connections the host has open."""
         folder = f"/proc/{self.process.pid}/fd"
-        links = [os.readlink(f"{folder}/{name}") for name in os.listdir(folder)]
-        return len([link for link in links if link.startswith("socket:")]) - 1
+        count = 0
+        for name in os.listdir(folder):
+            # One that is listed may be closed by now.
+            with contextlib.suppress(FileNotFoundError):
+                count += os.readlink(f"{folder}/{name}").startswith("socket:")
+        return count - 1
 
     def wait_for_connections(self, count, seconds, what):
         limit = time.monotonic() + seconds
@@ -615,25 +620,36 @@ def frames(top, *sources):
     return b"".join(b":X%02X22B%03XN%s;\n" % (top, source, b"20" if top == 0x1B else b"A8") for source in sources)
 
 
+class TooSlow(Exception):
+    """A frame that was to come in time may have come too late, so that nothing can be said of the host."""
+
+
 def grow_old(ask):
     """Unfinished datagrams of a board. At each yield the given seconds have to pass."""
-    expect(ask(frames(0x1B, *range(1, 10))), b":X19A4822BN00092020;\n", "eight Firsts and a ninth")
+
+    def expect_in_time(since, text, wanted, what):
+        got = ask(text)
+        if time.monotonic() - since >= AGE_MAX:
+            raise TooSlow
+        expect(got, wanted, what)
+
     begun = time.monotonic()
+    expect_in_time(begun, frames(0x1B, *range(1, 10)), b":X19A4822BN00092020;\n", "eight Firsts and a ninth")
     yield AGE_MAX / 2
     # In time: the one is finished and another renewed.
-    expect(ask(frames(0x1D, 2)), b":X19A2822BN000200;\n", "a Last in time")
-    expect(ask(b":X1C22B003NA8;\n" + frames(0x1B, 2)), b"", "a Middle in time, and another First")
     renewed = time.monotonic()
+    expect_in_time(begun, frames(0x1D, 2), b":X19A2822BN000200;\n", "a Last in time")
+    expect_in_time(begun, b":X1C22B003NA8;\n" + frames(0x1B, 2), b"", "a Middle in time, and another First")
     yield AGE_MAX / 2 + 0.1
     # Too late, but for the two from which something has come in between.
-    expect(ask(frames(0x1B, 9) + frames(0x1D, 9)), b":X19A2822BN000900;\n", "the ninth when others are too old")
-    expect(ask(frames(0x1D, 1, 4)), b":X19A4822BN00012040;\n:X19A4822BN00042040;\n", "a Last that is too late")
-    expect(ask(b":X1D22B003N;\n" + frames(0x1D, 2)), b":X19A2822BN000300;\n:X19A2822BN000200;\n", "Lasts of those that are not too old")
-    expect((time.monotonic() - begun > AGE_MAX, time.monotonic() - renewed < AGE_MAX), (True, True), "fast enough for this test")
+    expect_in_time(renewed, frames(0x1B, 9) + frames(0x1D, 9), b":X19A2822BN000900;\n", "the ninth when others are too old")
+    expect_in_time(renewed, frames(0x1D, 1, 4), b":X19A4822BN00012040;\n:X19A4822BN00042040;\n", "a Last that is too late")
+    in_time = b":X1D22B003N;\n" + frames(0x1D, 2)
+    expect_in_time(renewed, in_time, b":X19A2822BN000300;\n:X19A2822BN000200;\n", "Lasts of those that are not too old")
 
 
-def test_growing_old():
-    """An unfinished datagram is dropped when nothing has come of it for more than three seconds, and not before."""
+def let_grow_old():
+    """Datagrams of two boards at once: one on TCP, and one on standard input."""
     with Hub() as hub, subprocess.Popen([HOST], stdin=subprocess.PIPE, stdout=subprocess.PIPE, bufsize=0) as host:
         tool = hub.tool()
         boards = [
@@ -645,6 +661,18 @@ def test_growing_old():
             time.sleep(max(pauses))
             pauses = [next(board, 0) for board in boards]
         tool.close()
+
+
+def test_growing_old():
+    """An unfinished datagram is dropped when nothing has come of it for more than three seconds, and not before. Where this machine was too slow
+    to tell, it is tried again."""
+    for _ in range(5):
+        try:
+            let_grow_old()
+            return
+        except TooSlow:
+            continue
+    sys.exit("host_test.py: five times too slow to let a datagram grow old")
 
 
 def test_usage():

@@ -26,15 +26,19 @@ REFUSALS = {
 OPTIONS = b":X1A22B123N2080;\n"
 OPTIONS_OUT = ":X19A2822BN012380;\n:X1A12322BN2082E000F2FF10;\n"
 
+# As many lone ticks as never come.
+ALL_TICKS = 1 << 30
 
-def environment(left, refusal):
-    return {**os.environ, "REFUSAL": f"{left} {refusal}"}
+
+def environment(frames, ticks, refusal):
+    return {**os.environ, "REFUSAL": f"{frames} {ticks} {refusal}"}
 
 
-def run(program, left, refusal, words=()):
-    """What a program prints and how it ends, with a library that refuses after so many calls."""
+def run(program, frames, refusal, words=(), ticks=ALL_TICKS):
+    """What a program prints and how it ends, with a library that refuses after so many frames and lone ticks. The host brings lone ticks as time
+    passes, and a machine may let it wait: so of those none is refused where nothing else is said."""
     done = subprocess.run([os.path.join(OUT, program), *words], input=2 * OPTIONS, capture_output=True, check=False, timeout=PATIENCE,
-                          env=environment(left, refusal))
+                          env=environment(frames, ticks, refusal))
     return done.returncode, done.stdout.decode(), done.stderr.decode()
 
 
@@ -44,9 +48,9 @@ def expect(got, wanted, what):
 
 
 def start_idle(words):
-    """A host to which nothing is sent, with a library that refuses all behind the call at the start: the first is a lone tick."""
+    """A host to which nothing is sent, with a library that refuses every lone tick."""
     return subprocess.Popen([os.path.join(OUT, "host-refusing"), *words], stdin=subprocess.PIPE, stdout=subprocess.PIPE,
-                            stderr=subprocess.PIPE, bufsize=0, env=environment(1, "7 255"))
+                            stderr=subprocess.PIPE, bufsize=0, env=environment(1, 0, "7 255"))
 
 
 def check_idle(host, what):
@@ -65,7 +69,7 @@ def check_frames():
         # At the second frame of two: the first is answered.
         expect(run("host-refusing", 2, refusal), (0, OPTIONS_OUT, f"host: {sentence}\n"), f"the host with {refusal} at the second frame")
         # At the second frame of four, at all behind it and at the lone tick.
-        status, out, err = run("example-refusing", 2, refusal)
+        status, out, err = run("example-refusing", 2, refusal, ticks=0)
         expect((status, out.count("\n"), err), (0, 2, 4 * f"{sentence}\n"), f"the example with {refusal} at the second frame")
 
 

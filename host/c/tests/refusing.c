@@ -1,7 +1,7 @@
 /*
  * A library that refuses: linked with a program by -Wl,--wrap=bujorelm_handle_frame,--wrap=bujorelm_handle_tick, it gives a house number and a
- * position where the real call would have answered. REFUSAL in the environment has three numbers: how many calls are left to the library before
- * that, frames and lone ticks together, the house number, and the position.
+ * position where the real call would have answered. REFUSAL in the environment has four numbers: how many frames and how many lone ticks are left
+ * to the library before that, each counted by itself, the house number, and the position.
  */
 #include "bujorelm.h"
 
@@ -23,21 +23,27 @@ struct bujorelm_result __wrap_bujorelm_handle_frame(uint16_t alias, uint8_t writ
 struct bujorelm_result __real_bujorelm_handle_tick(struct bujorelm_reception *reception, uint16_t tick);
 struct bujorelm_result __wrap_bujorelm_handle_tick(struct bujorelm_reception *reception, uint16_t tick);
 
-/* Whether the call that is made now is refused, and with which result. */
-static bool refuses(struct bujorelm_result *result)
+/* What REFUSAL says. */
+struct refusal {
+    unsigned frames;
+    unsigned ticks;
+    struct bujorelm_result result;
+};
+
+static struct refusal refusal_wanted(void)
 {
-    static unsigned calls = 0;
     const char *const text = getenv("REFUSAL");
-    unsigned left;
+    struct refusal wanted = {.result = {.kind = BUJORELM_REFUSED}};
     unsigned house;
     unsigned position;
 
-    if (text == NULL || sscanf(text, "%u %u %u", &left, &house, &position) != 3) {
-        fputs("refusing: REFUSAL has to be three numbers\n", stderr);
+    if (text == NULL || sscanf(text, "%u %u %u %u", &wanted.frames, &wanted.ticks, &house, &position) != 4) {
+        fputs("refusing: REFUSAL has to be four numbers\n", stderr);
         exit(EXIT_FAILURE);
     }
-    *result = (struct bujorelm_result){.kind = BUJORELM_REFUSED, .house = (uint8_t)house, .position = (uint8_t)position};
-    return calls++ >= left;
+    wanted.result.house = (uint8_t)house;
+    wanted.result.position = (uint8_t)position;
+    return wanted;
 }
 
 struct bujorelm_result __wrap_bujorelm_handle_frame(uint16_t alias, uint8_t write_lengths, const struct bujorelm_space *spaces,
@@ -47,10 +53,11 @@ struct bujorelm_result __wrap_bujorelm_handle_frame(uint16_t alias, uint8_t writ
                                                     const uint8_t *payload, size_t payload_len, uint8_t *reply, size_t reply_len,
                                                     struct bujorelm_frame *frames)
 {
-    struct bujorelm_result refused;
+    static unsigned frames_before = 0;
+    const struct refusal wanted = refusal_wanted();
 
-    if (refuses(&refused)) {
-        return refused;
+    if (frames_before++ >= wanted.frames) {
+        return wanted.result;
     }
     return __real_bujorelm_handle_frame(alias, write_lengths, spaces, spaces_size, flash, flash_len, memory, memory_len, lock, pool,
                                         reception, tick, header, payload, payload_len, reply, reply_len, frames);
@@ -58,7 +65,8 @@ struct bujorelm_result __wrap_bujorelm_handle_frame(uint16_t alias, uint8_t writ
 
 struct bujorelm_result __wrap_bujorelm_handle_tick(struct bujorelm_reception *reception, uint16_t tick)
 {
-    struct bujorelm_result refused;
+    static unsigned ticks_before = 0;
+    const struct refusal wanted = refusal_wanted();
 
-    return refuses(&refused) ? refused : __real_bujorelm_handle_tick(reception, tick);
+    return ticks_before++ >= wanted.ticks ? wanted.result : __real_bujorelm_handle_tick(reception, tick);
 }

@@ -50,12 +50,15 @@ static struct can_frame frame_of(uint32_t can_id, const char *hex)
     return frame;
 }
 
-/* What the board sends next, within a second or not at all. */
+/* How long anything that must happen may take, in milliseconds. */
+#define PATIENCE 20000
+
+/* What the board sends next; false where it sends nothing. */
 static bool receive(int bus, struct can_frame *frame)
 {
     struct pollfd p = {.fd = bus, .events = POLLIN};
 
-    return poll(&p, 1, 1000) == 1 && read(bus, frame, sizeof *frame) == (ssize_t)sizeof *frame;
+    return poll(&p, 1, PATIENCE) == 1 && read(bus, frame, sizeof *frame) == (ssize_t)sizeof *frame;
 }
 
 static void test_headers(void)
@@ -187,14 +190,13 @@ static void end(struct served served, uint64_t time, const char *answer)
     ask(served, 0x1D22B123u, "A8", answer);
 }
 
-/* Waits until the board reads its clock, for ten seconds at most: on a quiet bus, or on one that is full of frames that no board is interested
-   in. */
+/* Waits until the board reads its clock: on a quiet bus, or on one that is full of frames that no board is interested in. */
 static bool reads_clock(struct served served, bool quiet)
 {
     const struct timespec pause = {.tv_nsec = 1000000};
     const unsigned reads = board_clock->reads;
 
-    for (unsigned waited = 0; waited < 10000 && board_clock->reads == reads; waited++) {
+    for (unsigned waited = 0; waited < PATIENCE && board_clock->reads == reads; waited++) {
         if (!quiet) {
             send_to(served, 0x1B22B123u | CAN_EFF_FLAG | CAN_RTR_FLAG, "");
         }
