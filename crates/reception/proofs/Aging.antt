@@ -16,7 +16,7 @@ use Rattle.reception.specs.Ticks.{tickAt, age, isDue, dropDue}
 use Rattle.reception.specs.Times.{Input, frameInput, loneTick, Timed, Follows, TimelyAfter, Timely, isAccepted}
 use Rattle.reception.specs.Reception.{State, sound, atTick}
 use Rattle.reception.specs.Order.{FrameResult, answerEvent, handleInput, runCalls, Fresh, Each, timesOf, stateRefused, keep}
-use Rattle.reception.specs.Aging.{isHouse, acceptsFrame, Unrefused, acceptsFrom, lastFrom, TrueAges, FarBefore, AcceptedBefore, freeCount, EightFree, JoinAging}
+use Rattle.reception.specs.Aging.{isHouse, acceptsFrame, Unrefused, acceptsFrom, lastFrom, TrueAges, FarBefore, EachAccepted, freeCount, EightFree, JoinAging}
 use Rattle.reception.proofs.PlaceLaws.{sound-good, blank-none}
 use Rattle.reception.proofs.StepLaws.{Sized}
 use Rattle.reception.proofs.DropLaws.{AllDated, none-dated, sized-due, age-is, due-old, by-due, dated-due, all-dated}
@@ -90,12 +90,6 @@ module _ {C H W A : Type 0} (heard : C → Timed) (b7 : H) (handle : W → List 
 
   -- ---- the list of calls
 
-  -- P of the time of each call that accepts a frame
-  Accepted : (ℕ → Type 0) → State → W → List C → Type 0
-  Accepted P st w [] = Unit {0}
-  Accepted P st w (c ∷ cs) =
-      let r = one st w c in (acceptsFrame (heard c .input) (r .answer) ≡ true → P (heard c .time)) × Accepted P (r .state) (r .world) cs
-
   -- a state at a time `now` with fewer than 62,000 ticks to go to the time t
   record Ready (P : ℕ → Type 0) (last : ℕ → ℕ) (t : ℕ) (st : State) : Type 0 where
     now : ℕ
@@ -103,9 +97,8 @@ module _ {C H W A : Type 0} (heard : C → Timed) (b7 : H) (handle : W → List 
     left : Left P last now st
 
   all : (P : ℕ → Type 0) (t : ℕ) (cs : List C) (now : ℕ) (last : ℕ → ℕ) (st : State) (w : W) → Left P last now st →
-      TimelyAfter now (timesOf heard cs ++ t ∷ []) → Unrefused one st w cs → Accepted P st w cs →
+      TimelyAfter now (timesOf heard cs ++ t ∷ []) → Unrefused one st w cs → EachAccepted P heard one st w cs →
       Ready P (λ s. lastFrom heard one s (last s) st w cs) t (runCalls one st w cs .state)
-  unfolding Accepted
   all P t [] now last st w l k u a = record { now = now; follows = k .0; left = l }
   all P t (c ∷ cs) now last st w l k u a =
       let x : Timed = heard c in
@@ -122,7 +115,7 @@ module _ {C H W A : Type 0} (heard : C → Timed) (b7 : H) (handle : W → List 
         dated = none-dated P last now (st .places) (λ s. blank-none s (st .places) (st .pool) (start .nothing-unfinished s));
       }
 
-  ready : (P : ℕ → Type 0) (st : State) (w : W) (cs : List C) (t : ℕ) → Fresh st → Timely (timesOf heard cs ++ t ∷ []) → Unrefused one st w cs → Accepted P st w cs →
+  ready : (P : ℕ → Type 0) (st : State) (w : W) (cs : List C) (t : ℕ) → Fresh st → Timely (timesOf heard cs ++ t ∷ []) → Unrefused one st w cs → EachAccepted P heard one st w cs →
       Ready P (λ s. lastFrom heard one s 0 st w cs) t (runCalls one st w cs .state)
   ready P st w [] t start k u a = all P t [] t (λ s. 0) st w (started P (λ s. 0) t st start) ((omega arith, omega arith), tt) u a
   ready P st w (c ∷ cs) t start k u a =
@@ -130,8 +123,7 @@ module _ {C H W A : Type 0} (heard : C → Timed) (b7 : H) (handle : W → List 
 
   -- ---- the two theorems
 
-  always : (st : State) (w : W) (cs : List C) → Accepted (λ t. Unit {0}) st w cs
-  unfolding Accepted
+  always : (st : State) (w : W) (cs : List C) → EachAccepted (λ t. Unit {0}) heard one st w cs
   always st w [] = tt
   always st w (c ∷ cs) = (λ e. tt, always (one st w c .state) (one st w c .world) cs)
 
@@ -144,11 +136,6 @@ module _ {C H W A : Type 0} (heard : C → Timed) (b7 : H) (handle : W → List 
   true-ages st w cs t start k u =
       let r = ready (λ x. Unit {0}) st w cs t start k u (always st w cs) in
       each-age (λ s. lastFrom heard one s 0 st w cs) (r .now) t (r .follows) (runCalls one st w cs .state .places) (r .left .dated)
-
-  accepted-before : (t : ℕ) (st : State) (w : W) (cs : List C) → AcceptedBefore heard one t st w cs → Accepted (FarBefore t) st w cs
-  unfolding Accepted
-  accepted-before t st w [] a = tt
-  accepted-before t st w (c ∷ cs) a = (a .0, accepted-before t (one st w c .state) (one st w c .world) cs (a .1))
 
   all-free : (last : ℕ → ℕ) (now t : ℕ) → Follows now t → (ps : List Place) → AllDated (FarBefore t) last now ps →
       freeCount (dropDue (tickAt t) ps) ≡ length ps
@@ -168,7 +155,7 @@ module _ {C H W A : Type 0} (heard : C → Timed) (b7 : H) (handle : W → List 
 
   pub eight-free : EightFree heard one
   eight-free st w cs t start k u a =
-      let r = ready (FarBefore t) st w cs t start k u (accepted-before t st w cs a) in
+      let r = ready (FarBefore t) st w cs t start k u a in
       all-free (λ s. lastFrom heard one s 0 st w cs) (r .now) t (r .follows) (runCalls one st w cs .state .places) (r .left .dated) ∙ r .left .sized .eight
 
 pub join-aging : JoinAging

@@ -65,24 +65,24 @@ TrueAges {C} {H} {W} heard one =
 abbrev pub FarBefore : ℕ → ℕ → Type 0
 FarBefore t x = x + 3000 < t
 
--- So is that of each of the calls cs that accepts a frame.
-abbrev pub AcceptedBefore : {C H W A : Type 0} → (C → Timed) → (State → W → C → FrameResult H W A) → ℕ → State → W → List C → Type 0
-AcceptedBefore heard one t st w [] = Unit {0}
-AcceptedBefore heard one t st w (c ∷ cs) =
+-- P of the time of each of the calls cs that accepts a frame.
+abbrev pub EachAccepted : {C H W A : Type 0} → (ℕ → Type 0) → (C → Timed) → (State → W → C → FrameResult H W A) → State → W → List C → Type 0
+EachAccepted P heard one st w [] = Unit {0}
+EachAccepted P heard one st w (c ∷ cs) =
     let r = one st w c in
-    (acceptsFrame (heard c .input) (r .answer) ≡ true → FarBefore t (heard c .time)) × AcceptedBefore heard one t (r .state) (r .world) cs
+    (acceptsFrame (heard c .input) (r .answer) ≡ true → P (heard c .time)) × EachAccepted P heard one (r .state) (r .world) cs
 
 -- How many places are free.
 abbrev pub freeCount : List Place → ℕ
 freeCount [] = 0
 freeCount (p ∷ ps) = cond (p .held) 0 1 + freeCount ps
 
--- After the calls cs, a call at the time t has eight free places before its frame: whatever tools sent, however many of their frames were
--- refused or ignored, and whatever lone ticks came in between.
+-- After the calls cs, of which each that accepts a frame is more than 3,000 ticks before the time t, a call at t has eight free places before
+-- its frame: whatever tools sent, however many of their frames were refused or ignored, and whatever lone ticks came in between.
 abbrev pub EightFree : {C H W A : Type 0} → (C → Timed) → (State → W → C → FrameResult H W A) → Type 0
 EightFree {C} {H} {W} heard one =
     (st : State) (w : W) (cs : List C) (t : ℕ) → Fresh st → Timely (timesOf heard cs ++ t ∷ []) → Unrefused one st w cs
-    → AcceptedBefore heard one t st w cs → freeCount (atTick (tickAt t) (runCalls one st w cs .state) .places) ≡ 8
+    → EachAccepted (FarBefore t) heard one st w cs → freeCount (atTick (tickAt t) (runCalls one st w cs .state) .places) ≡ 8
 
 -- ---- joining by itself
 

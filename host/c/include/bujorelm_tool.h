@@ -293,7 +293,8 @@ struct bujorelm_reply bujorelm_read_reply(const uint8_t *datagram, size_t datagr
  * A finished datagram is read before the next call: its bytes are the frame's data, or in the pool.
  *
  * Every frame has the tick 0 here, so that what is unfinished does not grow old: in a state that starts all zero and is changed by these calls
- * alone, no place has another tick.
+ * alone, no place has another tick. In any other state what is more than 3,000 ticks back from 0 is dropped before the frame is looked at, even
+ * one that is ignored.
  */
 struct bujorelm_joined bujorelm_join(uint16_t alias, uint8_t *pool, struct bujorelm_reception *reception, uint32_t header,
                                      const uint8_t *payload, size_t payload_len);
