@@ -87,7 +87,10 @@ struct answer listener_take(struct listener *listener, const struct bujorelm_fra
 bool listener_is_waiting(const struct listener *listener)
 {
     for (size_t i = 0; i < BUJORELM_PLACES; i++) {
-        if (listener->reception.places[i].held != 0) {
+        const struct bujorelm_place *const place = &listener->reception.places[i];
+
+        /* Where a reply was broken, that was its end: what is swallowed behind it answers nothing. */
+        if (place->held != 0 && place->swallowing == 0) {
             return true;
         }
     }

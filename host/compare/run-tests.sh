@@ -1,7 +1,7 @@
 #!/bin/sh
 # Holds the test run of the comparison: the tests of this package, and library and model compared
-# at every age of an unfinished datagram, and by random calls with a fixed seed and with one from the
-# clock. (The model has tests of its own.)
+# at every age of a held place, and by random calls with a fixed seed and with one from the clock.
+# (The model has tests of its own.)
 # Both archives of the library have to be there: target/staticlib/libdriver.a, the board's half, built
 # by `rt staticlib driver`, and target/staticlib/libtool.a, the tool's, built by `rt staticlib tool`.
 set -eu

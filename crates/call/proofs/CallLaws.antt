@@ -17,6 +17,7 @@ use Rattle.reception.specs.Aging.{isHouse}
 use Rattle.reception.specs.Books.{Event, ignored, noAnswer, refuse, finish, badState}
 use Rattle.reception.proofs.Order.{order}
 use Rattle.reception.proofs.Aging.{true-ages, eight-free}
+use Rattle.reception.proofs.Swallowing.{one-rejection}
 use Rattle.buffer.proofs.Choice.{clash, by-test}
 use Rattle.handling.specs.Access.{Changes}
 use Rattle.handling.specs.Handling.{Fixed, Contents, handle, Performs}
@@ -28,7 +29,7 @@ use Rattle.answer.specs.declared.Answer.{Answer}
 use Rattle.answer.specs.declared.Answer.the-variants.{Rejected, Written, UpdateComplete, Replied}
 use Rattle.call.specs.FrameCall.{handler, frameCall, Answers, SmallFrame, FrameChanges}
 use Rattle.call.specs.TickCall.{tickAnswer}
-use Rattle.call.specs.NodeOrder.{Call, frameAt, loneTickAt, heardOf, BufferFits, makeCall, NodeOrder, NodeAging}
+use Rattle.call.specs.NodeOrder.{Call, frameAt, loneTickAt, heardOf, BufferFits, makeCall, NodeOrder, NodeAging, NodeRejection}
 use Rattle.call.specs.declared.FrameAnswer.{FrameAnswer}
 use Rattle.call.specs.declared.FrameAnswer.the-variants.{Answered}
 
@@ -125,3 +126,8 @@ node-aging x =
       ages = true-ages heardOf B7 (handler x) (x .alias) (makeCall x) (unrefused-call x);
       eight-free = eight-free heardOf B7 (handler x) (x .alias) (makeCall x) (unrefused-call x);
     }
+
+-- ---- a broken datagram
+
+pub node-rejection : (x : Fixed) → NodeRejection x
+node-rejection x = one-rejection heardOf B7 (handler x) (x .alias) (makeCall x) (unrefused-call x)

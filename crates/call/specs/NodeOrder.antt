@@ -1,5 +1,5 @@
--- Demand 3 of document 01, with C-14 of document 02: the calls of a driver, the order statement over a list of them, and what becomes of
--- unfinished datagrams that grow old.
+-- Demand 3 of document 01, with C-14 and C-15 of document 02: the calls of a driver, the order statement over a list of them, and what becomes of
+-- unfinished datagrams that grow old, and of a tool whose datagram is broken.
 use Prim.Native.Nat.{ℕ, _≤_}
 use mathlib.Core.List.{List}
 use mathlib.Core.Path.{_≡_}
@@ -13,6 +13,7 @@ use Rattle.reception.specs.Times.{frameInput, loneTick, Timed, timed}
 use Rattle.reception.specs.Reception.{State}
 use Rattle.reception.specs.Order.{FrameResult, OrderStatement}
 use Rattle.reception.specs.Aging.{TrueAges, EightFree}
+use Rattle.reception.specs.Swallowing.{OneRejection}
 use Rattle.answer.specs.Answers.{Result}
 use Rattle.handling.specs.Handling.{Fixed, Contents}
 use Rattle.call.specs.FrameCall.{handler, frameCall}
@@ -51,3 +52,7 @@ NodeOrder x =
 pub record NodeAging (x : Fixed) : Type 0 where
   pub ages : TrueAges heardOf (makeCall x)
   pub eight-free : EightFree heardOf (makeCall x)
+
+-- Of every list of these calls that no house number refuses, whatever the description and the buffers: "One rejection for one broken datagram".
+abbrev pub NodeRejection : Fixed → Type 0
+NodeRejection x = OneRejection heardOf (handler x) (x .alias) (makeCall x)

@@ -9,7 +9,7 @@ pub enum Handled {
     Answered(Answer),
 }
 
-// What comes of a frame: a house number; an ignored frame; a frame that is joined and not answered; a transport refusal, sent as
+// What comes of a frame: a house number; an ignored frame; a frame that is joined or swallowed and not answered; a transport refusal, sent as
 // Rejected with its code; or the answer to the datagram that the frame finishes.
 pub enum FrameAnswer {
     Refused(HouseNumber),

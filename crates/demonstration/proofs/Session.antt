@@ -11,7 +11,7 @@ use Rattle.command.specs.Decoding.{decodeRead, decodeWrite, decodeMasked, decod
 use Rattle.reception.specs.Ticks.{isDue, dropDue}
 use Rattle.reception.specs.Order.{handleFrame}
 use Rattle.reception.specs.PlaceBytes.{placesIn}
-use Rattle.reception.specs.Reception.{isFor, joinSound, receive}
+use Rattle.reception.specs.Reception.{isFor, keptIn, joinSound, receive}
 use Rattle.fragments.specs.Cutting.{restFrames, framesOf, cutFrames}
 use Rattle.transport.specs.Transport.{receivedOk, rejectedWith}
 use Rattle.head.specs.Head.{replyHead}
@@ -34,5 +34,5 @@ use Rattle.session.specs.Session.{answerLines}
 use Rattle.demonstration.specs.PaperSession.{PaperSession}
 
 pub paper-session : PaperSession
-unfolding putAt placed kindOf addressed roleOf frameOf findSpace among spacesHouse descriptionHouse pairsOf commands.kindOf restOf decodeRead decodeWrite decodeMasked decodeKind decode isDue dropDue handleFrame placesIn isFor joinSound receive restFrames framesOf cutFrames receivedOk rejectedWith replyHead readResult writeResult memoryAfter masked storeMasked perform handle datagramHouse frameCall framesToSend digitValue digitOf allDigits digitsOf bytesIn hexDigits numberIn lineOf formed parseOf frameText framesText completed unfinished endLine answerLine answerLines
+unfolding putAt placed kindOf addressed roleOf frameOf findSpace among spacesHouse descriptionHouse pairsOf commands.kindOf restOf decodeRead decodeWrite decodeMasked decodeKind decode isDue dropDue handleFrame placesIn isFor keptIn joinSound receive restFrames framesOf cutFrames receivedOk rejectedWith replyHead readResult writeResult memoryAfter masked storeMasked perform handle datagramHouse frameCall framesToSend digitValue digitOf allDigits digitsOf bytesIn hexDigits numberIn lineOf formed parseOf frameText framesText completed unfinished endLine answerLine answerLines
 paper-session = refl

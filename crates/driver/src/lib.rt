@@ -27,11 +27,11 @@ ghost use Rattle.input.specs.Input.{carryOf, line, nextOf, lastOf};
 ghost use Rattle.driver.specs.Returns.{DatagramReturns, FrameReturns, TickReturns};
 
 // The version of this edge, major in the upper 16 bits and minor in the lower: a header of the same major and of no greater minor fits.
-const VERSION: u32 = 0x00040000;
+const VERSION: u32 = 0x00050000;
 
 #[no_mangle]
 pub extern "C" fn bujorelm_version() -> u32
-    ensures { λ r. ⌜ r ≡ 0x00040000 ⌝ }
+    ensures { λ r. ⌜ r ≡ 0x00050000 ⌝ }
 {
     VERSION
 }

@@ -2,14 +2,14 @@
 use Prim.Native.Nat.{ℕ, _-_, _≤_}
 use mathlib.Core.Path.{_≡_}
 use mathlib.Core.Logic.{_≢_}
-use mathlib.Core.Bool.{Bool, true, false, cond, _&&_}
+use mathlib.Core.Bool.{Bool, true, false, cond, not, _&&_}
 use mathlib.Core.List.{List, [], _∷_, _++_, map}
 use lib.Dec.{leb}
 use lib.ListN.{length, take, drop, replicate}
 use Rattle.frame.specs.declared.Frame.{Frame}
 use Rattle.frame.specs.Frame.{CanFrame, canFrame, headerOf, frameOf}
 use Rattle.reception.specs.Ticks.{age}
-use Rattle.reception.specs.Books.{noAnswer, finish, blank}
+use Rattle.reception.specs.Books.{Book, blank, holds, swallowing, noAnswer, finish}
 use Rattle.reception.specs.Reception.{State, sound, full, unfinishedFor, receiveAll}
 
 -- ---- the frames
@@ -70,12 +70,19 @@ abbrev pub Prompt : List ℕ → Type 0
 Prompt [] = Unit {0}
 Prompt (now ∷ ticks) = PromptAfter now ticks
 
+-- Whether a source may begin a datagram, by whether every place is held and by what the state has for it: nothing, where there is a free place; or
+-- only that it is being swallowed, and then the place that is kept for it is its own to use.
+abbrev pub mayBegin : Bool → Book → Bool
+mayBegin allHeld blank = not allHeld
+mayBegin allHeld (holds b) = false
+mayBegin allHeld swallowing = true
+
 -- Every datagram of at most 72 bytes, cut by the source s for the board and joined there, frame by frame, each at most 3,000 ticks after the
--- one before, is finished as it was at the last frame, and no frame before that is answered: from any state that B7 lets pass with a free
--- place and nothing unfinished of s.
+-- one before, is finished as it was at the last frame, and no frame before that is answered: from any state that B7 lets pass in which s may
+-- begin a datagram, one in which it is being swallowed too.
 abbrev pub CutJoins : Type 0
 CutJoins =
     (alias s : ℕ) (xs ticks : List ℕ) (st : State) → length xs ≤ 72 → alias ≤ 4095 → s ≤ 4095 → s ≢ alias → length (st .places) ≡ 8
-    → length (st .pool) ≡ 576 → sound (st .places) ≡ true → full (st .places) ≡ false → unfinishedFor st s ≡ blank
+    → length (st .pool) ≡ 576 → sound (st .places) ≡ true → mayBegin (full (st .places)) (unfinishedFor st s) ≡ true
     → length ticks ≡ length (cutFrames xs alias s) → Prompt ticks
     → receiveAll alias st ticks (map carried (cutFrames xs alias s)) ≡ replicate (length (cutFrames xs alias s) - 1) noAnswer ++ finish xs ∷ []

@@ -1,4 +1,4 @@
-// Frames joined into datagrams.
+// Frames joined into datagrams, or swallowed behind one that was refused.
 use outcome::Outcome;
 ghost use Rattle.frame.specs.Frame.{canFrame};
 ghost use Rattle.reception.specs.Reception.{receive};

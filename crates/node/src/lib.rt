@@ -8,7 +8,7 @@ ghost use Rattle.frame.specs.Frame.{canFrame};
 ghost use Rattle.reception.specs.PlaceBytes.{stateIn};
 ghost use Rattle.handling.specs.Handling.{fixed, contents};
 ghost use Rattle.call.specs.FrameCall.{frameCall, Answers, Keeps, SmallFrame, FrameChanges};
-ghost use Rattle.call.specs.NodeOrder.{NodeOrder, NodeAging};
+ghost use Rattle.call.specs.NodeOrder.{NodeOrder, NodeAging, NodeRejection};
 
 // Handles a frame that came from the bus at a tick. The bytes of unfinished datagrams are in the pool, 72 for each place.
 pub fn handle_frame(
@@ -31,6 +31,7 @@ pub fn handle_frame(
     ensures changes { λ r. ⌜ FrameChanges r (now (memory .entry)) (now (memory .exit)) ⌝ }
     ensures order { λ _. ⌜ NodeOrder (fixed alias «write_lengths» (spacesIn (now (spaces .entry))) (now (flash .entry))) ⌝ }
     ensures aging { λ _. ⌜ NodeAging (fixed alias «write_lengths» (spacesIn (now (spaces .entry))) (now (flash .entry))) ⌝ }
+    ensures rejection { λ _. ⌜ NodeRejection (fixed alias «write_lengths» (spacesIn (now (spaces .entry))) (now (flash .entry))) ⌝ }
 {
     let house = description::check_call(alias, spaces, flash.len(), memory.len(), out.len());
     if !house::is_good(house) {

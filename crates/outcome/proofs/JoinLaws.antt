@@ -1,38 +1,38 @@
 -- What each answer of the joining functions owes. The result of a callee is a variable here, with what the callee ensures of it.
 -- Assumes nothing.
 use mathlib.Core.Path.{_≡_, refl, sym, ap, _∙_, subst}
-use mathlib.Core.Bool.{Bool, true, false, cond, true≢false}
+use mathlib.Core.Bool.{Bool, true, false, cond, _&&_, true≢false}
 use mathlib.Core.List.{List, [], _++_}
 use Prim.Native.Nat.{ℕ, _+_, _-_, _*_, _≤_, _<_}
 use native.Mathlib.Nat.{add-zero}
 use native.Mathlib.Omega.{arith}
 use lib.Dec.{leb, ltb, eqb}
-use lib.ListN.{length, take, drop, getD, length-drop}
-use lib.Seq.{length-take-le}
-use borrow.Author.Tests.{ltb-true, ltb-false, leb-true, eqb-false, lt-leb}
+use lib.ListN.{length, take, drop, getD, set, length-drop}
+use lib.Seq.{length-take-le, set-getD}
+use borrow.Author.Tests.{ltb-true, ltb-false, lt-ltb, leb-true, eqb-true, eqb-false, lt-leb}
 use Rattle.buffer.specs.Buffer.{putAt, placed}
-use Rattle.buffer.proofs.Choice.{by-test}
+use Rattle.buffer.proofs.Choice.{clash, by-test, and-left, and-right}
 use Rattle.buffer.proofs.Laws.{placed-fits, placed-not, take-put, drop-put}
 use Rattle.frame.specs.declared.Role.{Role}
 use Rattle.frame.specs.declared.Role.the-variants.{Ignored, Single, First, Middle, Last}
 use Rattle.frame.specs.Frame.{canFrame, sourceOf, addressed, roleOf}
 use Rattle.step.specs.declared.Step.{Step}
-use Rattle.step.specs.declared.Step.the-variants.{Ignore, Deliver, Open, Append, Close, Refuse}
-use Rattle.step.specs.Step.{stepNew, stepMore, stepOf}
-use Rattle.reception.specs.Place.{Place, heldFor, freePlace}
+use Rattle.step.specs.declared.Step.the-variants.{Ignore, Deliver, Open, Append, Close, Refuse, RefuseAndSwallow, Swallow, SwallowLast}
+use Rattle.step.specs.Step.{stepNew, stepMore, stepSwallowed, stepOf}
+use Rattle.reception.specs.Place.{Place, place, heldFor, swallowingFor, freePlace}
 use Rattle.reception.specs.Ticks.{dropDue}
-use Rattle.reception.specs.Books.{blank, holds, noAnswer, refuse, finish, outOfOrder, temporaryError, bufferUnavailable}
-use Rattle.reception.specs.Reception.{State, state, placeOf, freeIn, hasPlace, full, sizeAt, bytesAt, dropped, appended, closed, Joined, joined, joinRule, joinSound, receive, sound, atTick}
-use Rattle.reception.specs.PlaceBytes.{placesIn, placeBytes, stateIn, renewed}
-use Rattle.reception.proofs.PlaceLaws.{isFor-held, good-short, sound-good, good-sound, place-found, place-out, free, free-out, blank-of}
-use Rattle.reception.proofs.ByteLaws.{places-length, renewed-same, Changed, changed-places, changed-bytes, differ-held, differ-len}
+use Rattle.reception.specs.Books.{blank, holds, swallowing, noAnswer, refuse, finish, outOfOrder, temporaryError, bufferUnavailable}
+use Rattle.reception.specs.Reception.{State, state, placeOf, freeIn, hasPlace, full, sizeAt, bytesAt, dropped, appended, closed, keptAfterRefusal, Joined, joined, joinRule, joinSound, receive, isFor, sound, atTick}
+use Rattle.reception.specs.PlaceBytes.{placesIn, placeBytes, stateIn, samePlace, renewed}
+use Rattle.reception.proofs.PlaceLaws.{isFor-held, isFor-source, good-short, kept-bytes, kept-swallowing, sound-good, good-sound, place-found, place-out, free, free-out, blank-of}
+use Rattle.reception.proofs.ByteLaws.{places-length, renewed-same, Changed, changed-places, changed-bytes, differ-held, differ-len, differ-tick, differ-swallowing}
 use Rattle.reception.proofs.StepLaws.{joins}
 use Rattle.reception.proofs.DropLaws.{good-due, sized-due, length-due}
 use Rattle.reception.proofs.DropBytes.{renewed-after}
 use Rattle.outcome.specs.declared.Outcome.{Outcome}
 use Rattle.outcome.specs.declared.Outcome.the-variants as outcome
 use Rattle.outcome.specs.Joins.{eventOf, InsidePool, Joins}
-use Rattle.outcome.specs.Inner.{Lent, Fitting, performed}
+use Rattle.outcome.specs.Inner.{Lent, Fitting, Own, Allowed, left, performed}
 
 -- the state stays as it was
 pub stays-joins : (d pool xs : List ℕ) (o : Outcome) → InsidePool o → Joins (joined (stateIn xs pool) (eventOf o d pool)) d o xs xs pool
@@ -40,33 +40,97 @@ stays-joins d pool xs o i = record { places = refl; renewal = renewed-same xs; p
 
 -- ---- opened
 
-module _ (s : ℕ) (d : List ℕ) (now : ℕ) (pool xs : List ℕ) (i : ℕ) (e : i ≡ freeIn (placesIn xs)) where
-  abbrev opening : Joined
-  opening = joinRule First s d now (stateIn xs pool) blank
+-- in place k, which is that of s, if it is being swallowed, and otherwise the first free one
+module _ (s i : ℕ) (d : List ℕ) (now : ℕ) (pool xs : List ℕ) (k : ℕ) (e : k ≡ cond (ltb i 8) i (freeIn (placesIn xs))) where
+  abbrev opening : Bool → Joined
+  opening b = performed Open b s i d now (stateIn xs pool)
 
-  pub open-full : 8 ≤ i → Joins opening d (outcome.Refuse bufferUnavailable) xs xs pool
-  open-full h = go (full (placesIn xs)) refl
+  pub open-full : 8 ≤ k → Joins (opening (ltb i 8)) d (outcome.Refuse bufferUnavailable) xs xs pool
+  open-full h = found (ltb i 8) refl
     where
-      go : (b : Bool) → full (placesIn xs) ≡ b → Joins opening d (outcome.Refuse bufferUnavailable) xs xs pool
-      go true q = rw q (stays-joins d pool xs (outcome.Refuse bufferUnavailable) tt)
-      go false q = absurd (omega (arith, places-length xs, free (placesIn xs) q .inside))
+      go : (b : Bool) → full (placesIn xs) ≡ b → k ≡ freeIn (placesIn xs) → Joins (opening false) d (outcome.Refuse bufferUnavailable) xs xs pool
+      go true q n = rw q (stays-joins d pool xs (outcome.Refuse bufferUnavailable) tt)
+      go false q n = absurd (omega (arith, places-length xs, free (placesIn xs) q .inside))
 
-  pub open-done : Lent pool d → (after bytes : List ℕ) → Changed i (heldFor s (length d) now) xs after → bytes ≡ placed (72 * i) d pool →
-      Joins opening d outcome.NoAnswer xs after bytes
-  open-done m after bytes c a = go (full (placesIn xs)) refl
+      found : (b : Bool) → ltb i 8 ≡ b → Joins (opening b) d (outcome.Refuse bufferUnavailable) xs xs pool
+      found true q = let n : k ≡ i = rw q at e in absurd (omega (arith, ltb-true i 8 q))
+      found false q = go (full (placesIn xs)) refl (rw q at e)
+
+  pub open-done : Lent pool d → (i < 8 → Own i s true xs) → (after bytes : List ℕ) → Changed k (heldFor s (length d) now) xs after → bytes ≡ placed (72 * k) d pool →
+      Joins (opening (ltb i 8)) d outcome.NoAnswer xs after bytes
+  open-done m o after bytes c a = found (ltb i 8) refl
     where
-      go : (b : Bool) → full (placesIn xs) ≡ b → Joins opening d outcome.NoAnswer xs after bytes
-      go true u = absurd (omega (arith, places-length xs, free-out (placesIn xs) u))
-      go false u =
-          let v : getD (placesIn xs) i freePlace .held ≡ false = rw e (free (placesIn xs) u .free) in
-          rw (u, ← e, add-zero)
+      go : (b : Bool) → full (placesIn xs) ≡ b → k ≡ freeIn (placesIn xs) → Joins (opening false) d outcome.NoAnswer xs after bytes
+      go true u n = absurd (omega (arith, places-length xs, free-out (placesIn xs) u, c .inside))
+      go false u n =
+          let v : getD (placesIn xs) k freePlace .held ≡ false = rw n (free (placesIn xs) u .free) in
+          rw (u, ← n, add-zero)
           (record {
             places = changed-places c;
-            renewal = changed-bytes c (differ-held (getD (placesIn xs) i freePlace) (heldFor s (length d) now) false v refl);
-            pool = a ∙ placed-fits (72 * i) d pool (omega arith);
+            renewal = changed-bytes c (differ-held (getD (placesIn xs) k freePlace) (heldFor s (length d) now) false v refl);
+            pool = a ∙ placed-fits (72 * k) d pool (omega (arith, c .inside, m .pool, m .payload));
             event = refl;
             inside = tt;
           })
+
+      found : (b : Bool) → ltb i 8 ≡ b → Joins (opening b) d outcome.NoAnswer xs after bytes
+      found true q =
+          let n : k ≡ i = rw q at e in
+          rw (← n, add-zero)
+          (record {
+            places = changed-places c;
+            renewal = changed-bytes c (differ-swallowing (getD (placesIn xs) k freePlace) (heldFor s (length d) now) true (rw n (o (ltb-true i 8 q) .kind)) refl);
+            pool = a ∙ placed-fits (72 * k) d pool (omega (arith, c .inside, m .pool, m .payload));
+            event = refl;
+            inside = tt;
+          })
+      found false q = go (full (placesIn xs)) refl (rw q at e)
+
+-- ---- swallowed
+
+module _ (i s : ℕ) (d : List ℕ) (now : ℕ) (pool xs : List ℕ) where
+  abbrev held : Place
+  held = getD (placesIn xs) i freePlace
+
+  -- a refused frame, after which what follows is swallowed
+  pub refuse-and-swallow-done : (unfinished : Bool) (code tick : ℕ) (after : List ℕ) → Own i s false xs → tick ≡ held .tick → Changed i (swallowingFor s tick) xs after →
+      Joins (performed (RefuseAndSwallow code) unfinished s i d now (stateIn xs pool)) d (outcome.Refuse code) xs after pool
+  refuse-and-swallow-done unfinished code tick after u e c =
+      rw (← e)
+      (record {
+        places = changed-places c;
+        renewal = changed-bytes c (differ-swallowing held (swallowingFor s tick) false (u .kind) refl);
+        pool = refl;
+        event = refl;
+        inside = tt;
+      })
+
+  -- a Middle, which is the last accepted frame from now on
+  module _ (u : Own i s true xs) where
+    changed-swallow : (after : List ℕ) → Changed i (swallowingFor s now) xs after → samePlace held (swallowingFor s now) ≡ false →
+        Joins (performed Swallow true s i d now (stateIn xs pool)) d outcome.NoAnswer xs after pool
+    changed-swallow after c n = record { places = changed-places c; renewal = changed-bytes c n; pool = refl; event = refl; inside = tt }
+
+    -- with another length than 0, or at another tick than that of the place
+    pub swallow-else : (after : List ℕ) → Changed i (swallowingFor s now) xs after → (eqb (held .len) 0 && eqb (held .tick) now) ≡ false →
+        Joins (performed Swallow true s i d now (stateIn xs pool)) d outcome.NoAnswer xs after pool
+    swallow-else after c n =
+        by-test (eqb (held .len) 0)
+        (λ q. changed-swallow after c (differ-tick held (swallowingFor s now) (eqb-false (held .tick) now (rw q at n))))
+        (λ q. changed-swallow after c (differ-len held (swallowingFor s now) (eqb-false (held .len) 0 q)))
+
+    -- the place is so already
+    pub swallow-same : (eqb (held .len) 0 && eqb (held .tick) now) ≡ true → Joins (performed Swallow true s i d now (stateIn xs pool)) d outcome.NoAnswer xs xs pool
+    swallow-same y =
+        let l : held .len ≡ 0 = eqb-true (held .len) 0 (and-left (eqb (held .len) 0) (eqb (held .tick) now) y) in
+        let t : held .tick ≡ now = eqb-true (held .tick) now (and-right (eqb (held .len) 0) (eqb (held .tick) now) y) in
+        let p : held ≡ swallowingFor s now =
+        ap (λ (x : Bool). place x (held .len) (held .source) (held .tick) (held .swallowing)) (isFor-held s held (u .own))
+        ∙ ap (λ (x : ℕ). place true x (held .source) (held .tick) (held .swallowing)) l
+        ∙ ap (λ (x : ℕ). place true 0 x (held .tick) (held .swallowing)) (isFor-source s held (u .own))
+        ∙ ap (λ (x : ℕ). place true 0 s x (held .swallowing)) t ∙ ap (place true 0 s now) (u .kind) in
+        let e : placesIn xs ≡ set (placesIn xs) i (swallowingFor s now) = sym (set-getD (placesIn xs) i freePlace) ∙ ap (set (placesIn xs) i) p in
+        record { places = e; renewal = renewed-same xs ∙ ap (λ (ps : List Place). renewed ps xs) e; pool = refl; event = refl; inside = tt }
 
 -- ---- appended to, and closed
 
@@ -109,38 +173,65 @@ module _ (i n : ℕ) (last : Bool) (d pool xs : List ℕ) (m : Lent pool d) (u :
         inside = (omega arith, omega (arith, u .inside, u .total));
       })
 
+-- ---- left
+
+-- place i becomes free, if it is there
+pub left-joins : (i : ℕ) (d pool xs : List ℕ) (o : Outcome) (after : List ℕ) → InsidePool o → length xs ≡ 64 → (i < 8 → getD (placesIn xs) i freePlace .held ≡ true) →
+    after ≡ placed (8 * i) (placeBytes freePlace) xs → Joins (joined (left (ltb i 8) i (stateIn xs pool)) (eventOf o d pool)) d o xs after pool
+left-joins i d pool xs o after inside z held a = go (ltb i 8) refl
+  where
+    go : (b : Bool) → ltb i 8 ≡ b → Joins (joined (left b i (stateIn xs pool)) (eventOf o d pool)) d o xs after pool
+    go true y =
+        let c : Changed i freePlace xs after = record { inside = ltb-true i 8 y; size = z; bytes = a } in
+        record {
+          places = changed-places c;
+          renewal = changed-bytes c (differ-held (getD (placesIn xs) i freePlace) freePlace true (held (ltb-true i 8 y)) refl);
+          pool = refl;
+          event = refl;
+          inside = inside;
+        }
+    go false y = rw (a ∙ sym (placed-not (8 * i) (placeBytes freePlace) xs (omega (arith, ltb-false i 8 y)))) (stays-joins d pool xs o inside)
+
 -- ---- what a step stands for
 
--- what is so where a step is taken
-Allowed : Step → Bool → ℕ → ℕ → Type 0
-Allowed Ignore b l n = Unit {0}
-Allowed Deliver b l n = Unit {0}
-Allowed Open b l n = Unit {0}
-Allowed Append b l n = (b ≡ true) × (0 < n) × (l + n ≤ 72)
-Allowed Close b l n = (b ≡ true) × (l + n ≤ 72)
-Allowed (Refuse code) b l n = Unit {0}
+-- what is so where a step is taken, for a source that is unfinished or not, and is being swruled or not
+Ruled : Step → Bool → Bool → ℕ → ℕ → Type 0
+Ruled Ignore b w l n = Unit {0}
+Ruled Deliver b w l n = Unit {0}
+Ruled Open b w l n = b ≡ true → w ≡ true
+Ruled Append b w l n = (b ≡ true) × (w ≡ false) × (0 < n) × (l + n ≤ 72)
+Ruled Close b w l n = (b ≡ true) × (w ≡ false) × (l + n ≤ 72)
+Ruled (Refuse code) b w l n = Unit {0}
+Ruled (RefuseAndSwallow code) b w l n = (b ≡ true) × (w ≡ false)
+Ruled Swallow b w l n = (b ≡ true) × (w ≡ true)
+Ruled SwallowLast b w l n = Unit {0}
 
-allowed : (role : Role) (n : ℕ) (b : Bool) (l : ℕ) → Allowed (stepOf role n b l) b l n
-unfolding stepOf Allowed
-allowed Ignored n true l = tt
-allowed Single n true l = tt
-allowed First n true l = tt
-allowed Middle n true l = go (eqb n 0) refl (leb (l + n) 72) refl
+ruled : (role : Role) (n : ℕ) (b w : Bool) (l : ℕ) → Ruled (stepOf role n b w l) b w l n
+unfolding stepOf Ruled
+ruled Ignored n true false l = tt
+ruled Single n true false l = (refl, refl)
+ruled First n true false l = (refl, refl)
+ruled Middle n true false l = go (eqb n 0) refl (leb (l + n) 72) refl
   where
-    go : (z : Bool) → eqb n 0 ≡ z → (f : Bool) → leb (l + n) 72 ≡ f → Allowed (cond z (Refuse 0x2040) (cond f Append (Refuse 0x2000))) true l n
-    go true y f q = tt
-    go false y true q = (refl, omega (arith, eqb-false n 0 y), leb-true (l + n) 72 q)
-    go false y false q = tt
-allowed Last n true l = go (leb (l + n) 72) refl
+    go : (z : Bool) → eqb n 0 ≡ z → (f : Bool) → leb (l + n) 72 ≡ f → Ruled (cond z (RefuseAndSwallow 0x2040) (cond f Append (RefuseAndSwallow 0x2000))) true false l n
+    go true y f q = (refl, refl)
+    go false y true q = (refl, refl, omega (arith, eqb-false n 0 y), leb-true (l + n) 72 q)
+    go false y false q = (refl, refl)
+ruled Last n true false l = go (leb (l + n) 72) refl
   where
-    go : (f : Bool) → leb (l + n) 72 ≡ f → Allowed (cond f Close (Refuse 0x2000)) true l n
-    go true q = (refl, leb-true (l + n) 72 q)
+    go : (f : Bool) → leb (l + n) 72 ≡ f → Ruled (cond f Close (Refuse 0x2000)) true false l n
+    go true q = (refl, refl, leb-true (l + n) 72 q)
     go false q = tt
-allowed Ignored n false l = tt
-allowed Single n false l = tt
-allowed First n false l = tt
-allowed Middle n false l = tt
-allowed Last n false l = tt
+ruled Ignored n true true l = tt
+ruled Single n true true l = tt
+ruled First n true true l = λ e. refl
+ruled Middle n true true l = (refl, refl)
+ruled Last n true true l = tt
+ruled Ignored n false w l = tt
+ruled Single n false w l = tt
+ruled First n false w l = λ e. clash (sym e)
+ruled Middle n false w l = tt
+ruled Last n false w l = tt
 
 -- ---- by whether the search found a place
 
@@ -165,31 +256,43 @@ module _ (s i : ℕ) (d : List ℕ) (now : ℕ) (pool xs : List ℕ) (m : Lent p
       go true u = absurd (omega (arith, places-length xs, place-found s (placesIn xs) pool u .inside))
       go false u = u
 
-  is-held : i < 8 → getD (placesIn xs) i freePlace .held ≡ true
-  is-held h = rw e (isFor-held s _ (place-found s (placesIn xs) pool (found h) .own))
+  own : i < 8 → isFor s (getD (placesIn xs) i freePlace) ≡ true
+  own h = rw e (place-found s (placesIn xs) pool (found h) .own)
 
-  size-is : i < 8 → length (bytesAt i here) ≡ len
-  size-is h =
-      let k : len ≤ 72 = good-short (placesIn xs) i (sound-good (placesIn xs) g) (is-held h) (omega (arith, places-length xs)) in
+  pub is-held : i < 8 → getD (placesIn xs) i freePlace .held ≡ true
+  is-held h = isFor-held s _ (own h)
+
+  size-is : i < 8 → getD (placesIn xs) i freePlace .swallowing ≡ false → length (bytesAt i here) ≡ len
+  size-is h n =
+      let k : len ≤ 72 = good-short (placesIn xs) i (sound-good (placesIn xs) g) (is-held h) n (omega (arith, places-length xs)) in
       length-take-le len (drop (72 * i) pool) (rw length-drop (omega (arith, m .pool)))
 
-  more : (role : Role) → i < 8 → joinRule role s d now here (holds (bytesAt i here)) ≡ performed (stepMore role len (length d)) true s i d now here
+  -- of a source that holds a datagram
+  more : (role : Role) → length (bytesAt i here) ≡ len → joinRule role s d now here (holds (bytesAt i here)) ≡ performed (stepMore role len (length d)) true s i d now here
   more Ignored h = refl
   more Single h = rw (← e) refl
   more First h = rw (← e) refl
-  more Middle h = rw (← e, size-is h) (go (eqb (length d) 0) (leb (len + length d) 72))
+  more Middle h = rw (← e, h) (go (eqb (length d) 0) (leb (len + length d) 72))
     where
       go : (z f : Bool) →
-          cond z (joined (dropped i here) (refuse outOfOrder)) (cond f (joined (appended s d now i here) noAnswer) (joined (dropped i here) (refuse temporaryError)))
-          ≡ performed (cond z (Refuse 0x2040) (cond f Append (Refuse 0x2000))) true s i d now here
+          cond z (joined (keptAfterRefusal s i here) (refuse outOfOrder)) (cond f (joined (appended s d now i here) noAnswer) (joined (keptAfterRefusal s i here) (refuse temporaryError)))
+          ≡ performed (cond z (RefuseAndSwallow 0x2040) (cond f Append (RefuseAndSwallow 0x2000))) true s i d now here
       go true f = refl
       go false true = refl
       go false false = refl
-  more Last h = rw (← e, size-is h) (go (leb (len + length d) 72))
+  more Last h = rw (← e, h) (go (leb (len + length d) 72))
     where
       go : (f : Bool) → cond f (joined (closed d i here) (finish (bytesAt i here ++ d))) (joined (dropped i here) (refuse temporaryError)) ≡ performed (cond f Close (Refuse 0x2000)) true s i d now here
       go true = refl
       go false = refl
+
+  -- of one that is being swallowed
+  more-swallowed : (role : Role) → joinRule role s d now here swallowing ≡ performed (stepSwallowed role) true s i d now here
+  more-swallowed Ignored = refl
+  more-swallowed Single = rw (← e) refl
+  more-swallowed First = rw (← e) refl
+  more-swallowed Middle = rw (← e) refl
+  more-swallowed Last = rw (← e) refl
 
   new : (role : Role) → joinRule role s d now here blank ≡ performed (stepNew role) false s i d now here
   new Ignored = refl
@@ -198,45 +301,42 @@ module _ (s i : ℕ) (d : List ℕ) (now : ℕ) (pool xs : List ℕ) (m : Lent p
   new Middle = refl
   new Last = refl
 
-  rules : (role : Role) (b : Bool) → ltb i 8 ≡ b → joinSound role s d now here ≡ performed (stepOf role (length d) b len) b s i d now here
+  rules : (role : Role) (b w : Bool) → ltb i 8 ≡ b → getD (placesIn xs) i freePlace .swallowing ≡ w →
+      joinSound role s d now here ≡ performed (stepOf role (length d) b w len) b s i d now here
   unfolding joinSound stepOf
-  rules role true q = rw (place-found s (placesIn xs) pool (found (ltb-true i 8 q)) .bytes, ← e) (more role (ltb-true i 8 q))
-  rules role false q = rw (blank-of s (placesIn xs) pool (not-found (ltb-false i 8 q))) (new role)
+  rules role true false q v =
+      rw (place-found s (placesIn xs) pool (found (ltb-true i 8 q)) .kept, ← e, kept-bytes (getD (placesIn xs) i freePlace) (drop (72 * i) pool) v) (more role (size-is (ltb-true i 8 q) v))
+  rules role true true q v =
+      rw (place-found s (placesIn xs) pool (found (ltb-true i 8 q)) .kept, ← e, kept-swallowing (getD (placesIn xs) i freePlace) (drop (72 * i) pool) v) (more-swallowed role)
+  rules role false w q v = rw (blank-of s (placesIn xs) pool (not-found (ltb-false i 8 q))) (new role)
 
-  module _ (role : Role) (l : ℕ) (k : l ≡ len) where
+  module _ (role : Role) (w : Bool) (v : w ≡ getD (placesIn xs) i freePlace .swallowing) (l : ℕ) (k : l ≡ len) where
     -- the step x that the rules give is taken
-    pub step-joins : (x : Step) → x ≡ stepOf role (length d) (ltb i 8) l → (o : Outcome) (after bytes : List ℕ) →
+    pub step-joins : (x : Step) → x ≡ stepOf role (length d) (ltb i 8) w l → (o : Outcome) (after bytes : List ℕ) →
         Joins (performed x (ltb i 8) s i d now here) d o xs after bytes → Joins (joinSound role s d now here) d o xs after bytes
-    step-joins x p o after bytes j = rw (rules role (ltb i 8) refl, ← k, ← p) j
+    step-joins x p o after bytes j = rw (rules role (ltb i 8) w refl (sym v), ← k, ← p) j
 
-    pub step-fitting : (last : Bool) → cond last Close Append ≡ stepOf role (length d) (ltb i 8) l → Fitting i l last xs d
-    unfolding Allowed
-    step-fitting true p =
-        let w = subst (λ (x : Step). Allowed x (ltb i 8) l (length d)) (sym p) (allowed role (length d) (ltb i 8) l) in
-        let h = ltb-true i 8 (w .0) in
-        record { inside = h; held = is-held h; len = k; total = w .1; some = λ q. absurd (true≢false q) }
-    step-fitting false p =
-        let w = subst (λ (x : Step). Allowed x (ltb i 8) l (length d)) (sym p) (allowed role (length d) (ltb i 8) l) in
-        let h = ltb-true i 8 (w .0) in
-        record { inside = h; held = is-held h; len = k; total = w .2; some = λ q. w .1 }
+    owned : (y : Bool) → ltb i 8 ≡ true → w ≡ y → Own i s y xs
+    owned y h q = let n = ltb-true i 8 h in record { inside = n; own = own n; kind = sym v ∙ q }
 
-  -- the datagram in place i is dropped, if there is one
-  pub refused-joins : (code : ℕ) (o : Outcome) (after : List ℕ) → length xs ≡ 64 → after ≡ placed (8 * i) (placeBytes freePlace) xs → o ≡ outcome.Refuse code →
-      Joins (performed (Refuse code) (ltb i 8) s i d now here) d o xs after pool
-  refused-joins code o after z a q = go (ltb i 8) refl
-    where
-      go : (b : Bool) → ltb i 8 ≡ b → Joins (performed (Refuse code) b s i d now here) d o xs after pool
-      go true y =
-          let c : Changed i freePlace xs after = record { inside = ltb-true i 8 y; size = z; bytes = a } in
-          rw q
-          (record {
-            places = changed-places c;
-            renewal = changed-bytes c (differ-held (getD (placesIn xs) i freePlace) freePlace true (is-held (ltb-true i 8 y)) refl);
-            pool = refl;
-            event = refl;
-            inside = tt;
-          })
-      go false y = rw (q, a ∙ sym (placed-not (8 * i) (placeBytes freePlace) xs (omega (arith, ltb-false i 8 y)))) (stays-joins d pool xs (outcome.Refuse code) tt)
+    fitting : (last : Bool) → ltb i 8 ≡ true → l + length d ≤ 72 → (last ≡ false → 0 < length d) → Fitting i l last xs d
+    fitting last h t some = let n = ltb-true i 8 h in record { inside = n; held = is-held n; len = k; total = t; some = some }
+
+    by-rule : (x : Step) → Ruled x (ltb i 8) w l (length d) → Allowed x i s l xs d
+    unfolding Ruled
+    by-rule Ignore r = tt
+    by-rule Deliver r = tt
+    by-rule Open r = λ h. owned true (lt-ltb i 8 h) (r (lt-ltb i 8 h))
+    by-rule Append r = fitting false (r .0) (r .3) (λ q. r .2)
+    by-rule Close r = fitting true (r .0) (r .2) (λ q. absurd (true≢false q))
+    by-rule (Refuse code) r = tt
+    by-rule (RefuseAndSwallow code) r = owned false (r .0) (r .1)
+    by-rule Swallow r = (owned true (r .0) (r .1), k)
+    by-rule SwallowLast r = tt
+
+    -- what it asks for is so
+    pub step-allowed : (x : Step) → x ≡ stepOf role (length d) (ltb i 8) w l → Allowed x i s l xs d
+    step-allowed x p = by-rule x (subst (λ (y : Step). Ruled y (ltb i 8) w l (length d)) (sym p) (ruled role (length d) (ltb i 8) w l))
 
 -- ---- the frame
 

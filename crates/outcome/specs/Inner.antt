@@ -6,10 +6,10 @@ use mathlib.Core.List.{List, _++_}
 use lib.ListN.{length, getD}
 use Rattle.frame.specs.declared.Role.the-variants.{First}
 use Rattle.step.specs.declared.Step.{Step}
-use Rattle.step.specs.declared.Step.the-variants.{Ignore, Deliver, Open, Append, Close, Refuse}
+use Rattle.step.specs.declared.Step.the-variants.{Ignore, Deliver, Open, Append, Close, Refuse, RefuseAndSwallow, Swallow, SwallowLast}
 use Rattle.reception.specs.Place.{freePlace}
 use Rattle.reception.specs.Books.{blank, ignored, noAnswer, refuse, finish}
-use Rattle.reception.specs.Reception.{State, bytesAt, dropped, appended, closed, Joined, joined, joinRule}
+use Rattle.reception.specs.Reception.{State, isFor, bytesAt, dropped, opened, appended, closed, swallowed, keptAfterRefusal, Joined, joined, joinRule}
 use Rattle.reception.specs.PlaceBytes.{placesIn}
 
 -- A pool of 72 bytes for each place, and a frame's data.
@@ -25,11 +25,36 @@ pub record Fitting (i n : ℕ) (last : Bool) (bytes d : List ℕ) : Type 0 where
   pub total : n + length d ≤ 72
   pub some : last ≡ false → 0 < length d
 
--- What a step does for a frame from s with the data d at the tick `now`, where the unfinished datagram of s, if it has one, is in place i.
+-- Place i, which is held for s, is or is not one of a source that is being swallowed.
+pub record Own (i s : ℕ) (swallowing : Bool) (bytes : List ℕ) : Type 0 where
+  pub inside : i < 8
+  pub own : isFor s (getD (placesIn bytes) i freePlace) ≡ true
+  pub kind : getD (placesIn bytes) i freePlace .swallowing ≡ swallowing
+
+-- What is so where a step is taken for a frame from s with the data d, where place i, if it is there, is that of s, with the length n.
+abbrev pub Allowed : Step → ℕ → ℕ → ℕ → List ℕ → List ℕ → Type 0
+Allowed Ignore i s n bytes d = Unit {0}
+Allowed Deliver i s n bytes d = Unit {0}
+Allowed Open i s n bytes d = i < 8 → Own i s true bytes
+Allowed Append i s n bytes d = Fitting i n false bytes d
+Allowed Close i s n bytes d = Fitting i n true bytes d
+Allowed (Refuse code) i s n bytes d = Unit {0}
+Allowed (RefuseAndSwallow code) i s n bytes d = Own i s false bytes
+Allowed Swallow i s n bytes d = Own i s true bytes × (n ≡ getD (placesIn bytes) i freePlace .len)
+Allowed SwallowLast i s n bytes d = Unit {0}
+
+-- The place of s, if it has one, becomes free.
+abbrev pub left : Bool → ℕ → State → State
+left unfinished i st = cond unfinished (dropped i st) st
+
+-- What a step does for a frame from s with the data d at the tick `now`, where the place of s, if it is unfinished, is place i.
 abbrev pub performed : Step → Bool → ℕ → ℕ → List ℕ → ℕ → State → Joined
 performed Ignore unfinished s i d now st = joined st ignored
-performed Deliver unfinished s i d now st = joined st (finish d)
-performed Open unfinished s i d now st = joinRule First s d now st blank
+performed Deliver unfinished s i d now st = joined (left unfinished i st) (finish d)
+performed Open unfinished s i d now st = cond unfinished (joined (opened s d now i st) noAnswer) (joinRule First s d now st blank)
 performed Append unfinished s i d now st = joined (appended s d now i st) noAnswer
 performed Close unfinished s i d now st = joined (closed d i st) (finish (bytesAt i st ++ d))
-performed (Refuse code) unfinished s i d now st = joined (cond unfinished (dropped i st) st) (refuse code)
+performed (Refuse code) unfinished s i d now st = joined (left unfinished i st) (refuse code)
+performed (RefuseAndSwallow code) unfinished s i d now st = joined (keptAfterRefusal s i st) (refuse code)
+performed Swallow unfinished s i d now st = joined (swallowed s now i st) noAnswer
+performed SwallowLast unfinished s i d now st = joined (left unfinished i st) noAnswer

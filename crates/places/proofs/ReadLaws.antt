@@ -11,7 +11,7 @@ use borrow.Author.Tests.{ltb-true, ltb-false}
 use Rattle.buffer.proofs.Choice.{by-test}
 use Rattle.reception.specs.Place.{Place, freePlace}
 use Rattle.reception.specs.PlaceBytes.{placesIn}
-use Rattle.reception.proofs.ByteLaws.{at-none, held-at, len-at, source-at, tick-at}
+use Rattle.reception.proofs.ByteLaws.{at-none, held-at, len-at, source-at, tick-at, swallowing-at}
 
 module _ (xs : List ℕ) (i : ℕ) where
   -- byte k of place i
@@ -41,3 +41,9 @@ module _ (xs : List ℕ) (i : ℕ) where
       by-test (ltb i 8)
       (λ q. rw q (tick-at xs i (ltb-true i 8 q)))
       (λ q. rw q (ap (λ (p : Place). p .tick) (at-none xs i (ltb-false i 8 q))))
+
+  pub swallowing-is : getD (placesIn xs) i freePlace .swallowing ≡ not (eqb (byteOf 6) 0)
+  swallowing-is =
+      by-test (ltb i 8)
+      (λ q. rw q (swallowing-at xs i (ltb-true i 8 q)))
+      (λ q. rw q (ap (λ (p : Place). p .swallowing) (at-none xs i (ltb-false i 8 q))))

@@ -21,14 +21,14 @@ fn byte_of(places: &[u8; 64], i: usize, k: usize) -> u8
     places[8 * i + k]
 }
 
-// Whether place i holds an unfinished datagram. Any byte that is not 0 is true.
+// Whether place i is held: it holds an unfinished datagram, or its source is being swallowed. Any byte that is not 0 is true.
 pub fn is_held(places: &[u8; 64], i: usize) -> bool
     ensures { λ r. ⌜ r ≡ getD (placesIn (now (places .entry))) i freePlace .held ⌝ }
 {
     byte_of(places, i, 0) != 0
 }
 
-// How many bytes of it are joined.
+// How many bytes of the datagram are joined.
 pub fn len_at(places: &[u8; 64], i: usize) -> u8
     ensures { λ r. ⌜ r ≡ getD (placesIn (now (places .entry))) i freePlace .len ⌝ }
 {
@@ -56,7 +56,14 @@ pub fn tick_at(places: &[u8; 64], i: usize) -> u16
     number_of(byte_of(places, i, 4), byte_of(places, i, 5))
 }
 
-// Whether place i holds a datagram of the source.
+// Whether the source of place i is being swallowed, where the place is held.
+pub fn is_swallowing(places: &[u8; 64], i: usize) -> bool
+    ensures { λ r. ⌜ r ≡ getD (placesIn (now (places .entry))) i freePlace .swallowing ⌝ }
+{
+    byte_of(places, i, 6) != 0
+}
+
+// Whether place i is held for the source.
 pub fn is_for(places: &[u8; 64], i: usize, source: u16) -> bool
     ensures { λ r. ⌜ r ≡ isFor source (getD (placesIn (now (places .entry))) i freePlace) ⌝ }
 {

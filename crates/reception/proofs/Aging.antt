@@ -27,12 +27,12 @@ module _ {C H W A : Type 0} (heard : C → Timed) (b7 : H) (handle : W → List 
   -- ---- one call
 
   -- what a call leaves, by the times at which each source's last frame was accepted
-  record Left (P : ℕ → Type 0) (last : ℕ → ℕ) (t : ℕ) (st : State) : Type 0 where
-    sized : Sized st
-    dated : AllDated P last t (st .places)
+  pub record Left (P : ℕ → Type 0) (last : ℕ → ℕ) (t : ℕ) (st : State) : Type 0 where
+    pub sized : Sized st
+    pub dated : AllDated P last t (st .places)
 
   -- the times after a call at t that brings i and is answered as r says
-  abbrev later : (ℕ → ℕ) → ℕ → Input → FrameResult H W A → ℕ → ℕ
+  abbrev pub later : (ℕ → ℕ) → ℕ → Input → FrameResult H W A → ℕ → ℕ
   later last t i r s = cond (acceptsFrom s i (r .answer)) t (last s)
 
   module _ (P : ℕ → Type 0) (last : ℕ → ℕ) (now t : ℕ) (st : State) (w : W) (follows : Follows now t) (ok : sound (st .places) ≡ true)
@@ -80,7 +80,7 @@ module _ {C H W A : Type 0} (heard : C → Timed) (b7 : H) (handle : W → List 
         (sym (answered-state b7 handle (taken alias (tickAt t) st (frameInput f) .state) w (taken alias (tickAt t) st (frameInput f) .event))) (frame-left f a)
     input-left loneTick a = record { sized = sized-due (tickAt t) st (before .sized); dated = after-drop }
 
-    call-left : (c : C) → heard c .time ≡ t → isHouse (one st w c .answer) ≡ false → (acceptsFrame (heard c .input) (one st w c .answer) ≡ true → P t) →
+    pub call-left : (c : C) → heard c .time ≡ t → isHouse (one st w c .answer) ≡ false → (acceptsFrame (heard c .input) (one st w c .answer) ≡ true → P t) →
         Left P (later last t (heard c .input) (one st w c)) t (one st w c .state)
     call-left c e h a =
         let q : answered (heard c .input) ≡ one st w c =
@@ -91,10 +91,10 @@ module _ {C H W A : Type 0} (heard : C → Timed) (b7 : H) (handle : W → List 
   -- ---- the list of calls
 
   -- a state at a time `now` with fewer than 62,000 ticks to go to the time t
-  record Ready (P : ℕ → Type 0) (last : ℕ → ℕ) (t : ℕ) (st : State) : Type 0 where
-    now : ℕ
-    follows : Follows now t
-    left : Left P last now st
+  pub record Ready (P : ℕ → Type 0) (last : ℕ → ℕ) (t : ℕ) (st : State) : Type 0 where
+    pub now : ℕ
+    pub follows : Follows now t
+    pub left : Left P last now st
 
   all : (P : ℕ → Type 0) (t : ℕ) (cs : List C) (now : ℕ) (last : ℕ → ℕ) (st : State) (w : W) → Left P last now st →
       TimelyAfter now (timesOf heard cs ++ t ∷ []) → Unrefused one st w cs → EachAccepted P heard one st w cs →
@@ -115,7 +115,7 @@ module _ {C H W A : Type 0} (heard : C → Timed) (b7 : H) (handle : W → List 
         dated = none-dated P last now (st .places) (λ s. blank-none s (st .places) (st .pool) (start .nothing-unfinished s));
       }
 
-  ready : (P : ℕ → Type 0) (st : State) (w : W) (cs : List C) (t : ℕ) → Fresh st → Timely (timesOf heard cs ++ t ∷ []) → Unrefused one st w cs → EachAccepted P heard one st w cs →
+  pub ready : (P : ℕ → Type 0) (st : State) (w : W) (cs : List C) (t : ℕ) → Fresh st → Timely (timesOf heard cs ++ t ∷ []) → Unrefused one st w cs → EachAccepted P heard one st w cs →
       Ready P (λ s. lastFrom heard one s 0 st w cs) t (runCalls one st w cs .state)
   ready P st w [] t start k u a = all P t [] t (λ s. 0) st w (started P (λ s. 0) t st start) ((omega arith, omega arith), tt) u a
   ready P st w (c ∷ cs) t start k u a =
@@ -123,7 +123,7 @@ module _ {C H W A : Type 0} (heard : C → Timed) (b7 : H) (handle : W → List 
 
   -- ---- the two theorems
 
-  always : (st : State) (w : W) (cs : List C) → EachAccepted (λ t. Unit {0}) heard one st w cs
+  pub always : (st : State) (w : W) (cs : List C) → EachAccepted (λ t. Unit {0}) heard one st w cs
   always st w [] = tt
   always st w (c ∷ cs) = (λ e. tt, always (one st w c .state) (one st w c .world) cs)
 

@@ -1,7 +1,7 @@
 -- Laws of the places as bytes: the place at an index, and the bytes after a change of one place.
 -- Assumes nothing.
 use mathlib.Core.Path.{_≡_, refl, sym, ap, _∙_}
-use mathlib.Core.Bool.{Bool, true, false, cond, not, _&&_}
+use mathlib.Core.Bool.{Bool, true, false, cond, not}
 use mathlib.Core.List.{List, [], _∷_, _++_, append-nil}
 use Prim.Native.Nat.{ℕ, zero, suc, _+_, _*_, _/_, _%_, _≤_, _<_}
 use native.Mathlib.Nat.{add-zero, le-of-suc-le-suc, not-suc-le-zero}
@@ -11,10 +11,10 @@ use lib.ListN.{length, take, drop, getD, set, length-drop, take-append-drop, dro
 use lib.Seq.{drop-drop, getD-drop, length-take-le, take-all, take-at, drop-at}
 use borrow.Author.Tests.{eqb-true, eq-eqb, ne-eqb, ltb-true, ltb-false}
 use Rattle.buffer.specs.Buffer.{putAt, placed}
-use Rattle.buffer.proofs.Choice.{clash, by-test, and-left, and-right}
+use Rattle.buffer.proofs.Choice.{clash, by-test, and-false, and-left, and-right}
 use Rattle.buffer.proofs.Laws.{placed-fits, put-first, take-before, drop-put}
 use Rattle.reception.specs.Place.{Place, place, freePlace}
-use Rattle.reception.specs.PlaceBytes.{placeIn, placesFrom, placesIn, placeBytes, samePlace, renewed}
+use Rattle.reception.specs.PlaceBytes.{placeIn, placesFrom, placesIn, placeBytes, same, samePlace, renewed}
 
 -- ---- the place at an index
 
@@ -57,20 +57,25 @@ module _ (xs : List ℕ) (i : ℕ) where
     pub tick-at : getD (placesIn xs) i freePlace .tick ≡ getD xs (8 * i + 4) 0 + getD xs (8 * i + 5) 0 * 256
     tick-at = rw (at, byte 4, byte 5)
 
+    pub swallowing-at : getD (placesIn xs) i freePlace .swallowing ≡ not (eqb (getD xs (8 * i + 6) 0) 0)
+    swallowing-at = rw (at, byte 6)
+
 -- ---- one place
 
-held-byte : (b : Bool) → not (eqb (cond b 1 0) 0) ≡ b
-held-byte true = refl
-held-byte false = refl
+truth-byte : (b : Bool) → not (eqb (cond b 1 0) 0) ≡ b
+truth-byte true = refl
+truth-byte false = refl
 
 two-bytes : (n : ℕ) → n % 256 + n / 256 * 256 ≡ n
 two-bytes n = omega arith
 
 bytes-place : (p : Place) (xs : List ℕ) → placeIn (placeBytes p ++ xs) ≡ p
 bytes-place p xs =
-    ap (λ (h : Bool). place h (p .len) (p .source % 256 + p .source / 256 * 256) (p .tick % 256 + p .tick / 256 * 256)) (held-byte (p .held))
-    ∙ ap (λ (s : ℕ). place (p .held) (p .len) s (p .tick % 256 + p .tick / 256 * 256)) (two-bytes (p .source))
-    ∙ ap (place (p .held) (p .len) (p .source)) (two-bytes (p .tick))
+    let w : Bool = not (eqb (cond (p .swallowing) 1 0) 0) in
+    ap (λ (h : Bool). place h (p .len) (p .source % 256 + p .source / 256 * 256) (p .tick % 256 + p .tick / 256 * 256) w) (truth-byte (p .held))
+    ∙ ap (λ (s : ℕ). place (p .held) (p .len) s (p .tick % 256 + p .tick / 256 * 256) w) (two-bytes (p .source))
+    ∙ ap (λ (t : ℕ). place (p .held) (p .len) (p .source) t w) (two-bytes (p .tick))
+    ∙ ap (place (p .held) (p .len) (p .source) (p .tick)) (truth-byte (p .swallowing))
 
 place-front : (xs : List ℕ) → placeIn (take 8 xs) ≡ placeIn xs
 place-front [] = refl
@@ -79,33 +84,38 @@ place-front (a ∷ b ∷ []) = refl
 place-front (a ∷ b ∷ c ∷ []) = refl
 place-front (a ∷ b ∷ c ∷ d ∷ []) = refl
 place-front (a ∷ b ∷ c ∷ d ∷ e ∷ []) = refl
-place-front (a ∷ b ∷ c ∷ d ∷ e ∷ f ∷ xs) = refl
+place-front (a ∷ b ∷ c ∷ d ∷ e ∷ f ∷ []) = refl
+place-front (a ∷ b ∷ c ∷ d ∷ e ∷ f ∷ g ∷ xs) = refl
+
+itself : (b : Bool) → same b b ≡ true
+itself true = refl
+itself false = refl
 
 pub same-refl : (p : Place) → samePlace p p ≡ true
 unfolding samePlace
-same-refl p = rw (eq-eqb (p .len) (p .len) refl, eq-eqb (p .source) (p .source) refl, eq-eqb (p .tick) (p .tick) refl) (go (p .held))
-  where
-    go : (b : Bool) → cond b b (not b) && true ≡ true
-    go true = refl
-    go false = refl
+same-refl p =
+    rw (eq-eqb (p .len) (p .len) refl, eq-eqb (p .source) (p .source) refl, eq-eqb (p .tick) (p .tick) refl, itself (p .held), itself (p .swallowing)) refl
 
-same-held : (a b : Bool) → cond a b (not b) ≡ true → a ≡ b
-same-held true true e = refl
-same-held true false e = clash (sym e)
-same-held false true e = clash (sym e)
-same-held false false e = refl
+same-truth : (a b : Bool) → same a b ≡ true → a ≡ b
+same-truth true true e = refl
+same-truth true false e = clash (sym e)
+same-truth false true e = clash (sym e)
+same-truth false false e = refl
 
 pub same-eq : (p q : Place) → samePlace p q ≡ true → p ≡ q
 unfolding samePlace
 same-eq p q e =
-    let h = same-held (p .held) (q .held) (and-left (cond (p .held) (q .held) (not (q .held))) _ e) in
-    let r = and-right (cond (p .held) (q .held) (not (q .held))) _ e in
+    let h = same-truth (p .held) (q .held) (and-left (same (p .held) (q .held)) _ e) in
+    let r = and-right (same (p .held) (q .held)) _ e in
     let l = eqb-true (p .len) (q .len) (and-left (eqb (p .len) (q .len)) _ r) in
     let u = and-right (eqb (p .len) (q .len)) _ r in
     let s = eqb-true (p .source) (q .source) (and-left (eqb (p .source) (q .source)) _ u) in
-    let t = eqb-true (p .tick) (q .tick) (and-right (eqb (p .source) (q .source)) _ u) in
-    ap (λ (b : Bool). place b (p .len) (p .source) (p .tick)) h ∙ ap (λ (n : ℕ). place (q .held) n (p .source) (p .tick)) l
-    ∙ ap (λ (n : ℕ). place (q .held) (q .len) n (p .tick)) s ∙ ap (place (q .held) (q .len) (q .source)) t
+    let v = and-right (eqb (p .source) (q .source)) _ u in
+    let t = eqb-true (p .tick) (q .tick) (and-left (eqb (p .tick) (q .tick)) _ v) in
+    let w = same-truth (p .swallowing) (q .swallowing) (and-right (eqb (p .tick) (q .tick)) _ v) in
+    ap (λ (b : Bool). place b (p .len) (p .source) (p .tick) (p .swallowing)) h ∙ ap (λ (n : ℕ). place (q .held) n (p .source) (p .tick) (p .swallowing)) l
+    ∙ ap (λ (n : ℕ). place (q .held) (q .len) n (p .tick) (p .swallowing)) s ∙ ap (λ (n : ℕ). place (q .held) (q .len) (q .source) n (p .swallowing)) t
+    ∙ ap (place (q .held) (q .len) (q .source) (q .tick)) w
 
 -- ---- place i becomes p
 
@@ -242,25 +252,21 @@ unfolding samePlace
 differ-held p q true e f = rw (e, f)
 differ-held p q false e f = rw (e, f)
 
+pub differ-len : (p q : Place) → (p .len ≡ q .len → ⊥) → samePlace p q ≡ false
+unfolding samePlace
+differ-len p q n = rw (ne-eqb (p .len) (q .len) n) (and-false (same (p .held) (q .held)))
+
 pub differ-tick : (p q : Place) → (p .tick ≡ q .tick → ⊥) → samePlace p q ≡ false
 unfolding samePlace
 differ-tick p q n =
-    rw (ne-eqb (p .tick) (q .tick) n) (go (eqb (p .source) (q .source)) (eqb (p .len) (q .len)) (cond (p .held) (q .held) (not (q .held))))
-  where
-    go : (a b c : Bool) → c && (b && (a && false)) ≡ false
-    go true true true = refl
-    go true true false = refl
-    go true false true = refl
-    go true false false = refl
-    go false true true = refl
-    go false true false = refl
-    go false false true = refl
-    go false false false = refl
+    rw (ne-eqb (p .tick) (q .tick) n, and-false (eqb (p .source) (q .source)), and-false (eqb (p .len) (q .len))) (and-false (same (p .held) (q .held)))
 
-pub differ-len : (p q : Place) → (p .len ≡ q .len → ⊥) → samePlace p q ≡ false
+pub differ-swallowing : (p q : Place) (b : Bool) → p .swallowing ≡ b → q .swallowing ≡ not b → samePlace p q ≡ false
 unfolding samePlace
-differ-len p q n = rw (ne-eqb (p .len) (q .len) n) (go (cond (p .held) (q .held) (not (q .held))))
+differ-swallowing p q b e f =
+    rw (e, f, else b, and-false (eqb (p .tick) (q .tick)), and-false (eqb (p .source) (q .source)), and-false (eqb (p .len) (q .len)))
+    (and-false (same (p .held) (q .held)))
   where
-    go : (b : Bool) → b && false ≡ false
-    go true = refl
-    go false = refl
+    else : (b : Bool) → same b (not b) ≡ false
+    else true = refl
+    else false = refl

@@ -18,7 +18,7 @@ use Rattle.reception.proofs.DropLaws.{due-held, due-age, by-due}
 module _ (now s : ℕ) (accepted : Bool) where
   -- a place that was due is not what it was: it is free, or has a tick that was not due
   turned-else : (x p : Place) → isDue now x ≡ true → Turned now s accepted freePlace p → samePlace x p ≡ false
-  turned-else x p d (inl (e, n)) = differ-held x p true (due-held now x d) (ap (λ (q : Place). q .held) e)
+  turned-else x p d (inl (k, n)) = differ-held x p true (due-held now x d) (k .held)
   turned-else x p d (inr (inl e)) = differ-held x p true (due-held now x d) e
   turned-else x p d (inr (inr (e, v, a))) =
       differ-tick x p (λ q. let m : x .tick ≡ now = q ∙ e in omega (arith, due-age now x d, m))

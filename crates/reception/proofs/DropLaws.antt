@@ -3,14 +3,14 @@
 -- Assumes nothing.
 use Prim.Native.Nat.{ℕ, suc, _+_, _-_, _≤_, _<_}
 use mathlib.Core.Path.{_≡_, refl, sym, ap, _∙_}
-use mathlib.Core.Logic.{inl, inr}
+use mathlib.Core.Logic.{_⊎_, inl, inr}
 use mathlib.Core.Bool.{Bool, true, false, cond}
 use mathlib.Core.List.{List, [], _∷_}
 use native.Mathlib.Omega.{arith}
 use lib.Dec.{ltb}
 use lib.ListN.{length, drop}
 use borrow.Author.Tests.{ltb-true, ltb-false, lt-ltb, le-ltb}
-use Rattle.buffer.proofs.Choice.{clash, and-left, and-right}
+use Rattle.buffer.proofs.Choice.{clash, and-false, and-left, and-right}
 use Rattle.reception.specs.Place.{Place, freePlace}
 use Rattle.reception.specs.Ticks.{tickAt, age, isDue, afterTick, dropDue}
 use Rattle.reception.specs.Books.{blank}
@@ -18,7 +18,7 @@ use Rattle.reception.specs.Times.{Follows}
 use Rattle.reception.specs.Reception.{State, isFor, unfinishedIn, hasPlace, full, atTick}
 use Rattle.reception.specs.Order.{Each}
 use Rattle.reception.proofs.PlaceLaws.{isFor-held, isFor-source, isFor-free, isFor-self, none-head, none-tail, blank-of, Good}
-use Rattle.reception.proofs.TurnedLaws.{Turned, AllTurned}
+use Rattle.reception.proofs.TurnedLaws.{Kept, Turned, AllTurned}
 use Rattle.reception.proofs.StepLaws.{Sized}
 
 -- ---- one place
@@ -80,6 +80,26 @@ room-due now (p ∷ ps) e = go (p .held) refl (room-due now ps)
     go true h ih = by-due now p (λ d q. rw q) (λ d q. rw (q, h, ih (rw h at e)))
     go false h ih = by-due now p (λ d q. rw q) (λ d q. rw (q, h))
 
+-- what the state has for s stays, or it has nothing, and then there is a free place
+pub kept-or-room : (now s : ℕ) (ps : List Place) (pool : List ℕ) → Good ps →
+    (unfinishedIn (dropDue now ps) pool s ≡ unfinishedIn ps pool s) ⊎ ((unfinishedIn (dropDue now ps) pool s ≡ blank) × (full (dropDue now ps) ≡ false))
+unfolding dropDue
+kept-or-room now s [] pool g = inl refl
+kept-or-room now s (p ∷ ps) pool g = go (isFor s p) refl (kept-or-room now s ps (drop 72 pool) (g .1))
+  where
+    rest : isFor s p ≡ true → unfinishedIn (dropDue now ps) (drop 72 pool) s ≡ blank
+    rest e = blank-of s (dropDue now ps) (drop 72 pool) (none-due now s ps (rw (isFor-source s p e) at (g .0 (isFor-held s p e) .alone)))
+
+    go : (b : Bool) → isFor s p ≡ b →
+        (unfinishedIn (dropDue now ps) (drop 72 pool) s ≡ unfinishedIn ps (drop 72 pool) s) ⊎ ((unfinishedIn (dropDue now ps) (drop 72 pool) s ≡ blank) × (full (dropDue now ps) ≡ false)) →
+        (unfinishedIn (dropDue now (p ∷ ps)) pool s ≡ unfinishedIn (p ∷ ps) pool s) ⊎ ((unfinishedIn (dropDue now (p ∷ ps)) pool s ≡ blank) × (full (dropDue now (p ∷ ps)) ≡ false))
+    go true e ih =
+        by-due now p
+        (λ d q. inr (rw (q, isFor-free s freePlace refl) (rest e), rw q))
+        (λ d q. inl (rw (q, e)))
+    go false e (inl same) = inl (rw (after-not now s p e, e) same)
+    go false e (inr (none, room)) = inr (rw (after-not now s p e) none, rw room (and-false (afterTick now p .held)))
+
 -- where the last accepted frame of s is at most 3,000 ticks back, what the state has for it stays
 pub unfinished-young : (now s : ℕ) (ps : List Place) (pool : List ℕ) → Each (λ (p : Place). isFor s p ≡ true → age now (p .tick) ≤ 3000) ps →
     unfinishedIn (dropDue now ps) pool s ≡ unfinishedIn ps pool s
@@ -92,6 +112,10 @@ unfinished-young now s (p ∷ ps) pool y = go (isFor s p) refl (unfinished-young
     go true e ih = by-due now p (λ d q. absurd (omega (arith, due-age now p d, y .0 e))) (λ d q. rw (q, e))
     go false e ih = rw (after-not now s p e, e) ih
 
+-- a place that is kept is for whom it was
+kept-for : (s : ℕ) (q p : Place) → Kept q p → isFor s p ≡ true → isFor s q ≡ true
+kept-for s q p k u = isFor-self s q (sym (k .held) ∙ isFor-held s p u) (sym (k .source) ∙ isFor-source s p u)
+
 -- after an accepted frame of s at the tick `now`, what is kept for s has that tick
 pub turned-tick : (now s : ℕ) (accepted : Bool) (qs ps : List Place) → accepted ≡ true → AllTurned now s accepted qs ps →
     Each (λ (p : Place). isFor s p ≡ true → p .tick ≡ now) ps
@@ -101,7 +125,7 @@ turned-tick now s accepted (q ∷ qs) [] a t = absurd t
 turned-tick now s accepted (q ∷ qs) (p ∷ ps) a t = (go (t .0), turned-tick now s accepted qs ps a (t .1))
   where
     go : Turned now s accepted q p → isFor s p ≡ true → p .tick ≡ now
-    go (inl (e, n)) u = clash (sym a ∙ n (rw e at u))
+    go (inl (k, n)) u = clash (sym a ∙ n (kept-for s q p k u))
     go (inr (inl e)) u = clash (sym u ∙ isFor-free s p e)
     go (inr (inr (e, v, b))) u = e
 
@@ -187,12 +211,12 @@ module _ (P : ℕ → Type 0) (last : ℕ → ℕ) (now t : ℕ) (follows : Foll
 module _ (P : ℕ → Type 0) (last after : ℕ → ℕ) (t s : ℕ) (accepted : Bool) (own : accepted ≡ true → (after s ≡ t) × P t)
     (else : (x : ℕ) → (s ≡ x → accepted ≡ false) → after x ≡ last x) where
   turned-dated : (q p : Place) → (q .held ≡ true → Dated P last t q) → Turned (tickAt t) s accepted q p → p .held ≡ true → Dated P after t p
-  turned-dated q p d (inl (e, n)) h =
-      let u : q .held ≡ true = rw e at h in
+  turned-dated q p d (inl (k, n)) h =
+      let u : q .held ≡ true = sym (k .held) ∙ h in
       let x = d u in
-      let y : last (p .source) ≡ after (p .source) = sym (else (p .source) (λ m. n (isFor-self s q u (ap (λ (v : Place). v .source) (sym e) ∙ sym m)))) in
-      let z : last (q .source) ≡ after (p .source) = ap (λ (v : Place). last (v .source)) (sym e) ∙ y in
-      record { tick = ap (λ (v : Place). v .tick) e ∙ x .tick ∙ ap tickAt z; past = rw (← z) (x .past); young = rw (← z) (x .young); kept = rw (← z) (x .kept) }
+      let y : last (p .source) ≡ after (p .source) = sym (else (p .source) (λ m. n (isFor-self s q u (sym (k .source) ∙ sym m)))) in
+      let z : last (q .source) ≡ after (p .source) = ap last (sym (k .source)) ∙ y in
+      record { tick = k .tick ∙ x .tick ∙ ap tickAt z; past = rw (← z) (x .past); young = rw (← z) (x .young); kept = rw (← z) (x .kept) }
   turned-dated q p d (inr (inl e)) h = clash (sym h ∙ e)
   turned-dated q p d (inr (inr (e, v, a))) h =
       let z : after (p .source) ≡ t = ap after v ∙ own a .0 in

@@ -12,11 +12,11 @@ use lib.ListN.{length, take, drop, getD, set, length-drop}
 use lib.Seq.{drop-drop}
 use borrow.Author.Tests.{eqb-true, eq-eqb, ne-eqb, le-leb, leb-true, not-true}
 use Rattle.buffer.specs.Buffer.{putAt}
-use Rattle.buffer.proofs.Choice.{clash, and-left, and-right}
+use Rattle.buffer.proofs.Choice.{clash, by-test, and-left, and-right}
 use Rattle.buffer.proofs.Laws.{take-before, drop-behind, drop-put}
 use Rattle.reception.specs.Place.{Place, freePlace}
-use Rattle.reception.specs.Books.{Book, blank, holds, isUnfinished}
-use Rattle.reception.specs.Reception.{isFor, unfinishedIn, placeOf, freeIn, hasPlace, full, soundBeside, sound}
+use Rattle.reception.specs.Books.{Book, blank, holds, swallowing, isUnfinished}
+use Rattle.reception.specs.Reception.{isFor, keptIn, unfinishedIn, placeOf, freeIn, hasPlace, full, soundBeside, sound}
 
 -- ---- whose a place is
 
@@ -50,7 +50,7 @@ isFor-not s t p n e = isFor-else t p (λ q. n (sym (isFor-source s p e) ∙ q))
 -- ---- a sound state, as facts
 
 pub record Fine (p : Place) (ps : List Place) : Type 0 where
-  pub short : p .len ≤ 72
+  pub short : p .swallowing ≡ false → p .len ≤ 72
   pub small : p .source ≤ 4095
   pub alone : hasPlace (p .source) ps ≡ false
 
@@ -60,15 +60,17 @@ Good (p ∷ ps) = (p .held ≡ true → Fine p ps) × Good ps
 
 pub beside-fine : (ps : List Place) (p : Place) → soundBeside ps p ≡ true → Fine p ps
 beside-fine ps p y =
-    let z = and-right (leb (p .len) 72) _ y in
+    let z = and-right (p .swallowing || leb (p .len) 72) _ y in
     record {
-      short = leb-true (p .len) 72 (and-left (leb (p .len) 72) _ y);
+      short = λ n. leb-true (p .len) 72 (rw n at (and-left (p .swallowing || leb (p .len) 72) _ y));
       small = leb-true (p .source) 4095 (and-left (leb (p .source) 4095) _ z);
       alone = not-true (hasPlace (p .source) ps) (and-right (leb (p .source) 4095) _ z);
     }
 
 pub fine-beside : (ps : List Place) (p : Place) → Fine p ps → soundBeside ps p ≡ true
-fine-beside ps p f = rw (le-leb (p .len) 72 (f .short), le-leb (p .source) 4095 (f .small), f .alone)
+fine-beside ps p f =
+    let short : p .swallowing || leb (p .len) 72 ≡ true = by-test (p .swallowing) (λ e. rw e) (λ e. rw (e, le-leb (p .len) 72 (f .short e))) in
+    rw (short, le-leb (p .source) 4095 (f .small), f .alone)
 
 pub good-sound : (ps : List Place) → Good ps → sound ps ≡ true
 good-sound [] g = refl
@@ -86,10 +88,41 @@ sound-good (p ∷ ps) e =
       sound-good ps (and-right (not (p .held) || soundBeside ps p) (sound ps) e),
     )
 
-pub good-short : (ps : List Place) (i : ℕ) → Good ps → getD ps i freePlace .held ≡ true → i < length ps → getD ps i freePlace .len ≤ 72
-good-short [] i g u h = absurd (omega arith)
-good-short (q ∷ ps) zero g u h = g .0 u .short
-good-short (q ∷ ps) (suc i) g u h = good-short ps i (g .1) u (omega arith)
+pub good-short : (ps : List Place) (i : ℕ) → Good ps → getD ps i freePlace .held ≡ true → getD ps i freePlace .swallowing ≡ false → i < length ps →
+    getD ps i freePlace .len ≤ 72
+good-short [] i g u n h = absurd (omega arith)
+good-short (q ∷ ps) zero g u n h = g .0 u .short n
+good-short (q ∷ ps) (suc i) g u n h = good-short ps i (g .1) u n (omega arith)
+
+-- ---- what a held place has
+
+pub kept-bytes : (p : Place) (pool : List ℕ) → p .swallowing ≡ false → keptIn p pool ≡ holds (take (p .len) pool)
+unfolding keptIn
+kept-bytes p pool e = rw e
+
+pub kept-swallowing : (p : Place) (pool : List ℕ) → p .swallowing ≡ true → keptIn p pool ≡ swallowing
+unfolding keptIn
+kept-swallowing p pool e = rw e
+
+kept-unfinished : (p : Place) (pool : List ℕ) → isUnfinished (keptIn p pool) ≡ true
+kept-unfinished p pool = by-test (p .swallowing) (λ e. rw (kept-swallowing p pool e)) (λ e. rw (kept-bytes p pool e))
+
+-- it depends on the bytes of the datagram alone
+kept-same : (p : Place) (xs ys : List ℕ) → (p .swallowing ≡ false → take (p .len) xs ≡ take (p .len) ys) → keptIn p xs ≡ keptIn p ys
+kept-same p xs ys h =
+    by-test (p .swallowing)
+    (λ e. kept-swallowing p xs e ∙ sym (kept-swallowing p ys e))
+    (λ e. kept-bytes p xs e ∙ ap holds (h e) ∙ sym (kept-bytes p ys e))
+
+-- the place by what it has
+pub holds-not-swallowing : (p : Place) (pool b : List ℕ) → keptIn p pool ≡ holds b → p .swallowing ≡ false
+holds-not-swallowing p pool b e =
+    by-test (p .swallowing) (λ q. absurd (let x : swallowing ≡ holds b = sym (kept-swallowing p pool q) ∙ e in let y : _≡_ {A = ℕ} 0 1 = cc in omega arith)) (λ q. q)
+
+pub swallowing-is : (p : Place) (pool : List ℕ) → keptIn p pool ≡ swallowing → p .swallowing ≡ true
+swallowing-is p pool e =
+    by-test (p .swallowing) (λ q. q)
+    (λ q. absurd (let x : holds (take (p .len) pool) ≡ swallowing = sym (kept-bytes p pool q) ∙ e in let y : _≡_ {A = ℕ} 0 1 = cc in omega arith))
 
 -- ---- which sources have an unfinished datagram, from the places alone
 
@@ -98,12 +131,13 @@ unfinished-is s [] pool = refl
 unfinished-is s (p ∷ ps) pool = go (isFor s p) refl (unfinished-is s ps (drop 72 pool))
   where
     go : (b : Bool) → isFor s p ≡ b → isUnfinished (unfinishedIn ps (drop 72 pool) s) ≡ hasPlace s ps → isUnfinished (unfinishedIn (p ∷ ps) pool s) ≡ hasPlace s (p ∷ ps)
-    go true e ih = rw e
+    go true e ih = rw (e, kept-unfinished p pool)
     go false e ih = rw e ih
 
 not-unfinished : (b : Book) → isUnfinished b ≡ false → b ≡ blank
 not-unfinished blank e = refl
 not-unfinished (holds b) e = clash e
+not-unfinished swallowing e = clash e
 
 pub blank-of : (s : ℕ) (ps : List Place) (pool : List ℕ) → hasPlace s ps ≡ false → unfinishedIn ps pool s ≡ blank
 blank-of s ps pool e = not-unfinished (unfinishedIn ps pool s) (unfinished-is s ps pool ∙ e)
@@ -111,8 +145,8 @@ blank-of s ps pool e = not-unfinished (unfinishedIn ps pool s) (unfinished-is s 
 pub blank-none : (s : ℕ) (ps : List Place) (pool : List ℕ) → unfinishedIn ps pool s ≡ blank → hasPlace s ps ≡ false
 blank-none s ps pool e = sym (unfinished-is s ps pool) ∙ ap isUnfinished e
 
-pub holds-some : (s : ℕ) (ps : List Place) (pool b : List ℕ) → unfinishedIn ps pool s ≡ holds b → hasPlace s ps ≡ true
-holds-some s ps pool b e = sym (unfinished-is s ps pool) ∙ ap isUnfinished e
+pub some-place : (s : ℕ) (ps : List Place) (pool : List ℕ) (b : Book) → unfinishedIn ps pool s ≡ b → isUnfinished b ≡ true → hasPlace s ps ≡ true
+some-place s ps pool b e u = sym (unfinished-is s ps pool) ∙ ap isUnfinished e ∙ u
 
 pub none-head : (s : ℕ) (p : Place) (ps : List Place) → hasPlace s (p ∷ ps) ≡ false → isFor s p ≡ false
 none-head s p ps e = go (isFor s p) refl
@@ -146,14 +180,14 @@ pub record PlaceOf (s : ℕ) (ps : List Place) (pool : List ℕ) (i : ℕ) : Typ
   pub inside : i < length ps
   pub own : isFor s (getD ps i freePlace) ≡ true
   pub first : hasPlace s (take i ps) ≡ false
-  pub bytes : unfinishedIn ps pool s ≡ holds (take (getD ps i freePlace .len) (drop (72 * i) pool))
+  pub kept : unfinishedIn ps pool s ≡ keptIn (getD ps i freePlace) (drop (72 * i) pool)
 
 pub place-found : (s : ℕ) (ps : List Place) (pool : List ℕ) → hasPlace s ps ≡ true → PlaceOf s ps pool (placeOf s ps)
 place-found s [] pool e = clash (sym e)
 place-found s (p ∷ ps) pool e = go (isFor s p) refl (place-found s ps (drop 72 pool))
   where
     go : (b : Bool) → isFor s p ≡ b → (hasPlace s ps ≡ true → PlaceOf s ps (drop 72 pool) (placeOf s ps)) → PlaceOf s (p ∷ ps) pool (placeOf s (p ∷ ps))
-    go true q ih = rw q (record { inside = omega arith; own = q; first = refl; bytes = rw q })
+    go true q ih = rw q (record { inside = omega arith; own = q; first = refl; kept = rw q })
     go false q ih =
         let r = ih (rw q at e) in
         let m : 72 * suc (placeOf s ps) ≡ 72 + 72 * placeOf s ps = omega arith in
@@ -161,7 +195,7 @@ place-found s (p ∷ ps) pool e = go (isFor s p) refl (place-found s ps (drop 72
           inside = omega (arith, r .inside);
           own = r .own;
           first = rw q (r .first);
-          bytes = rw (q, m) (r .bytes ∙ rw drop-drop);
+          kept = rw (q, m) (r .kept ∙ rw drop-drop);
         })
 
 pub place-out : (s : ℕ) (ps : List Place) → hasPlace s ps ≡ false → placeOf s ps ≡ length ps
@@ -207,11 +241,11 @@ none-left s i p [] a b n = refl
 none-left s zero p (q ∷ ps) a b n = rw n b
 none-left s (suc i) p (q ∷ ps) a b n = rw (none-head s q (take i ps) a) (none-left s i p ps (none-tail s q (take i ps) a) b n)
 
--- p is held, if at all, for s, and is short
+-- p is held, if at all, for s, and is short, if it holds a datagram
 abbrev pub Fits : ℕ → Place → Type 0
-Fits s p = p .held ≡ true → (p .len ≤ 72) × (p .source ≤ 4095) × (p .source ≡ s)
+Fits s p = p .held ≡ true → (p .swallowing ≡ false → p .len ≤ 72) × (p .source ≤ 4095) × (p .source ≡ s)
 
-fits-else : (s t : ℕ) (p : Place) → Fits s p → s ≢ t → isFor t p ≡ false
+pub fits-else : (s t : ℕ) (p : Place) → Fits s p → s ≢ t → isFor t p ≡ false
 fits-else s t p f n = go (p .held) refl
   where
     go : (b : Bool) → p .held ≡ b → isFor t p ≡ false
@@ -249,13 +283,15 @@ unfinished-else t (suc i) k p d (q ∷ ps) pool g h l f a b =
 
     go : (c : Bool) → isFor t q ≡ c → unfinishedIn (set ps i p) (putAt (72 * i + k) d (drop 72 pool)) t ≡ unfinishedIn ps (drop 72 pool) t →
         unfinishedIn (set (q ∷ ps) (suc i) p) (putAt (72 * suc i + k) d pool) t ≡ unfinishedIn (q ∷ ps) pool t
-    go true e ih = let u = g .0 (isFor-held t q e) .short in rw (e, m) (ap holds (take-before (72 + (72 * i + k)) d pool v (q .len) (omega arith)))
+    go true e ih =
+        rw (e, m)
+        (kept-same q _ pool (λ n. let u = g .0 (isFor-held t q e) .short n in take-before (72 + (72 * i + k)) d pool v (q .len) (omega arith)))
     go false e ih = rw (e, m, drop-put 72 (72 * i + k) d pool v) ih
 
 -- what s has, where the new place is the first of s
 pub unfinished-own : (s i k : ℕ) (p : Place) (d : List ℕ) (ps : List Place) (pool : List ℕ) → i < length ps → 72 * length ps ≤ length pool →
     k ≤ 72 → hasPlace s (take i ps) ≡ false → isFor s p ≡ true →
-    unfinishedIn (set ps i p) (putAt (72 * i + k) d pool) s ≡ holds (take (p .len) (putAt k d (drop (72 * i) pool)))
+    unfinishedIn (set ps i p) (putAt (72 * i + k) d pool) s ≡ keptIn p (putAt k d (drop (72 * i) pool))
 unfinished-own s i k p d [] pool h l f a b = absurd (not-suc-le-zero h)
 unfinished-own s zero k p d (q ∷ ps) pool h l f a b = let z : 72 * 0 + k ≡ k = omega arith in rw (b, z)
 unfinished-own s (suc i) k p d (q ∷ ps) pool h l f a b =

@@ -17,12 +17,12 @@ use Rattle.frame.specs.declared.Role.{Role}
 use Rattle.frame.specs.declared.Role.the-variants.{Ignored, Single, First, Middle, Last}
 use Rattle.frame.specs.Frame.{CanFrame, sourceOf, roleOf}
 use Rattle.frame.proofs.Laws.{role-short, source-small}
-use Rattle.reception.specs.Place.{Place, heldFor, freePlace}
-use Rattle.reception.specs.Books.{Book, blank, holds, isUnfinished, Event, ignored, noAnswer, refuse, finish, outOfOrder, temporaryError, bufferUnavailable, Entry, entry, fits, bookRule}
+use Rattle.reception.specs.Place.{Place, heldFor, swallowingFor, freePlace}
+use Rattle.reception.specs.Books.{Book, blank, holds, swallowing, isUnfinished, Event, ignored, noAnswer, refuse, finish, outOfOrder, temporaryError, bufferUnavailable, Entry, entry, fits, bookRule}
 use Rattle.reception.specs.Times.{isAccepted}
-use Rattle.reception.specs.Reception.{State, state, isFor, unfinishedIn, unfinishedFor, placeOf, freeIn, hasPlace, full, stored, sizeAt, dropped, opened, appended, closed, Joined, joined, joinRule, joinSound}
-use Rattle.reception.proofs.TurnedLaws.{New, AllTurned, same-turned, set-turned}
-use Rattle.reception.proofs.PlaceLaws.{isFor-self, isFor-held, isFor-free, isFor-not, isFor-else, Good, good-short, unfinished-is, blank-of, blank-none, holds-some, none-take, none-drop, none-left, PlaceOf, place-found, place-last, Free, free, Fits, good-set, unfinished-else, unfinished-own}
+use Rattle.reception.specs.Reception.{State, state, isFor, keptIn, unfinishedIn, unfinishedFor, placeOf, freeIn, hasPlace, full, stored, sizeAt, dropped, opened, appended, closed, swallowed, keptAfterRefusal, Joined, joined, joinRule, joinSound}
+use Rattle.reception.proofs.TurnedLaws.{Turned, AllTurned, same-turned, set-turned}
+use Rattle.reception.proofs.PlaceLaws.{isFor-self, isFor-held, isFor-source, isFor-free, isFor-not, Good, good-short, kept-bytes, kept-swallowing, holds-not-swallowing, unfinished-is, blank-of, blank-none, some-place, none-take, none-drop, none-left, PlaceOf, place-found, place-last, Free, free, Fits, fits-else, good-set, unfinished-else, unfinished-own}
 
 -- ---- one frame, at one source
 
@@ -54,8 +54,8 @@ module _ (now : ℕ) (st : State) (s : ℕ) (g : Good (st .places)) (z : Sized s
 -- place i, which is nobody else's, becomes p, which is not for another; d is put behind k of its bytes
 module _ (now : ℕ) (ps : List Place) (pool : List ℕ) (s i k : ℕ) (p : Place) (d : List ℕ) (g : Good ps) (z : Sized (state ps pool)) (h : i < length ps)
     (a : hasPlace s (take i ps) ≡ false) (b : hasPlace s (drop (suc i) ps) ≡ false) (o : (t : ℕ) → s ≢ t → isFor t (getD ps i freePlace) ≡ false)
-    (f : Fits s p) (n : (t : ℕ) → s ≢ t → isFor t p ≡ false) (r : k + length d ≤ 72) where
-  changes : (e : Event) (c : Book) → New now s (isAccepted e) p → unfinishedIn (set ps i p) (putAt (72 * i + k) d pool) s ≡ c →
+    (f : Fits s p) (r : k + length d ≤ 72) where
+  changes : (e : Event) (c : Book) → Turned now s (isAccepted e) (getD ps i freePlace) p → unfinishedIn (set ps i p) (putAt (72 * i + k) d pool) s ≡ c →
       Step now (state ps pool) s (joined (stored i p k d (state ps pool)) e) (entry c e)
   changes e c v w =
       let q : length ps ≡ 8 = z .eight in
@@ -65,85 +65,150 @@ module _ (now : ℕ) (ps : List Place) (pool : List ℕ) (s i k : ℕ) (p : Plac
         good = good-set s i p ps g a b f;
         sized = record { eight = length-set ps i p ∙ q; bytes = put-length (72 * i + k) d pool (omega arith) (omega arith) ∙ m };
         own = w;
-        else = λ t u. unfinished-else t i k p d ps pool g h (omega arith) r (o t u) (n t u);
+        else = λ t u. unfinished-else t i k p d ps pool g h (omega arith) r (o t u) (fits-else s t p f u);
         turned = set-turned now s (isAccepted e) i p ps a b v;
       }
 
-  gone : isFor s p ≡ false → unfinishedIn (set ps i p) (putAt (72 * i + k) d pool) s ≡ blank
-  gone u = blank-of s (set ps i p) (putAt (72 * i + k) d pool) (none-left s i p ps a b u)
+  -- it becomes free
+  frees : p ≡ freePlace → (e : Event) → Step now (state ps pool) s (joined (stored i p k d (state ps pool)) e) (entry blank e)
+  frees q e =
+      changes e blank (inr (inl (ap (λ (x : Place). x .held) q)))
+      (blank-of s (set ps i p) (putAt (72 * i + k) d pool) (none-left s i p ps a b (rw q (isFor-free s freePlace refl))))
+
+  -- it is held for s from now on
+  takes : isFor s p ≡ true → (e : Event) (c : Book) → Turned now s (isAccepted e) (getD ps i freePlace) p → keptIn p (putAt k d (drop (72 * i) pool)) ≡ c →
+      Step now (state ps pool) s (joined (stored i p k d (state ps pool)) e) (entry c e)
+  takes u e c v w =
+      let q : length ps ≡ 8 = z .eight in
+      let m : length pool ≡ 576 = z .bytes in
+      changes e c v (unfinished-own s i k p d ps pool h (omega arith) (omega arith) a u ∙ w)
+
+-- nothing is put into the pool
+module _ (now : ℕ) (ps : List Place) (pool : List ℕ) (s i : ℕ) (p : Place) (e : Event) (c : Book) where
+  untouched : Step now (state ps pool) s (joined (stored i p 0 [] (state ps pool)) e) (entry c e) →
+      Step now (state ps pool) s (joined (state (set ps i p) pool) e) (entry c e)
+  untouched x = subst (λ (y : List ℕ). Step now (state ps pool) s (joined (state (set ps i p) y) e) (entry c e)) (put-nil (72 * i + 0) pool) x
 
 free-place-fits : (s : ℕ) → Fits s freePlace
 free-place-fits s e = clash (sym e)
 
-free-place-else : (t : ℕ) → isFor t freePlace ≡ false
-free-place-else t = isFor-free t freePlace refl
+-- the bytes that a place gets at its start are those of its datagram
+put-front : (d pool : List ℕ) → take (length d) (putAt 0 d pool) ≡ d
+put-front d pool =
+    let x : 0 + length d ≡ length d = omega arith in
+    ap (λ (k : ℕ). take k (putAt 0 d pool)) (sym x) ∙ take-put 0 d pool (omega arith)
+
+-- a datagram is opened in place i, which is free or that of s
+module _ (now : ℕ) (ps : List Place) (pool : List ℕ) (s i : ℕ) (d : List ℕ) (g : Good ps) (z : Sized (state ps pool)) (h : i < length ps)
+    (a : hasPlace s (take i ps) ≡ false) (b : hasPlace s (drop (suc i) ps) ≡ false) (o : (t : ℕ) → s ≢ t → isFor t (getD ps i freePlace) ≡ false)
+    (l : length d ≤ 72) (m : s ≤ 4095) where
+  opens-at : Step now (state ps pool) s (joined (opened s d now i (state ps pool)) noAnswer) (entry (holds d) noAnswer)
+  opens-at =
+      let p : Place = heldFor s (length d) now in
+      takes now ps pool s i 0 p d g z h a b o (λ u. (λ n. l, m, refl)) (omega arith) (isFor-self s p refl refl) noAnswer (holds d) (inr (inr (refl, refl, refl)))
+      (kept-bytes p (putAt 0 d (drop (72 * i) pool)) refl ∙ ap holds (put-front d (drop (72 * i) pool)))
+
+-- ---- a source that has a place
+
+module _ (now : ℕ) (ps : List Place) (pool : List ℕ) (s : ℕ) (g : Good ps) (z : Sized (state ps pool)) (c : Book) (e : unfinishedIn ps pool s ≡ c) (u : isUnfinished c ≡ true) where
+  abbrev i : ℕ
+  i = placeOf s ps
+
+  at : PlaceOf s ps pool i
+  at = place-found s ps pool (some-place s ps pool c e u)
+
+  own-kept : keptIn (getD ps i freePlace) (drop (72 * i) pool) ≡ c
+  own-kept = sym (at .kept) ∙ e
+
+  not-else : (t : ℕ) → s ≢ t → isFor t (getD ps i freePlace) ≡ false
+  not-else t n = isFor-not s t (getD ps i freePlace) n (at .own)
+
+  drops : (v : Event) → Step now (state ps pool) s (joined (dropped i (state ps pool)) v) (entry blank v)
+  drops v = untouched now ps pool s i freePlace v blank (frees now ps pool s i 0 freePlace [] g z (at .inside) (at .first) (place-last s ps g) not-else (free-place-fits s) (omega arith) refl v)
+
+  -- what follows is swallowed
+  swallows : (t : ℕ) (v : Event) → s ≤ 4095 → Turned now s (isAccepted v) (getD ps i freePlace) (swallowingFor s t) →
+      Step now (state ps pool) s (joined (swallowed s t i (state ps pool)) v) (entry swallowing v)
+  swallows t v m k =
+      let p : Place = swallowingFor s t in
+      untouched now ps pool s i p v swallowing
+      (takes now ps pool s i 0 p [] g z (at .inside) (at .first) (place-last s ps g) not-else (λ u. (λ n. omega arith, m, refl)) (omega arith) (isFor-self s p refl refl) v swallowing k
+      (kept-swallowing p (putAt 0 [] (drop (72 * i) pool)) refl))
+
+  -- from a refused frame on: the tick stays
+  keeps-after-refusal : (v : Event) → isAccepted v ≡ false → s ≤ 4095 → Step now (state ps pool) s (joined (keptAfterRefusal s i (state ps pool)) v) (entry swallowing v)
+  keeps-after-refusal v n m =
+      swallows (getD ps i freePlace .tick) v m
+      (inl (record { held = sym (isFor-held s (getD ps i freePlace) (at .own)); source = sym (isFor-source s (getD ps i freePlace) (at .own)); tick = refl }, λ x. n))
+
+  -- a Middle is swallowed: it is the last accepted frame
+  renews : s ≤ 4095 → Step now (state ps pool) s (joined (swallowed s now i (state ps pool)) noAnswer) (entry swallowing noAnswer)
+  renews m = swallows now noAnswer m (inr (inr (refl, refl, refl)))
+
+  -- a First opens a datagram in the place of s
+  reopens : (d : List ℕ) → length d ≤ 72 → s ≤ 4095 → Step now (state ps pool) s (joined (opened s d now i (state ps pool)) noAnswer) (entry (holds d) noAnswer)
+  reopens d l m = opens-at now ps pool s i d g z (at .inside) (at .first) (place-last s ps g) not-else l m
+
+-- ---- a source that holds a datagram
 
 module _ (now : ℕ) (ps : List Place) (pool : List ℕ) (s : ℕ) (g : Good ps) (z : Sized (state ps pool)) (b : List ℕ) (e : unfinishedIn ps pool s ≡ holds b) where
-  at : PlaceOf s ps pool (placeOf s ps)
-  at = place-found s ps pool (holds-some s ps pool b e)
+  abbrev home : PlaceOf s ps pool (placeOf s ps)
+  home = at now ps pool s g z (holds b) e refl
+
+  abbrev size : ℕ
+  size = sizeAt (placeOf s ps) ps
+
+  datagram : getD ps (placeOf s ps) freePlace .swallowing ≡ false
+  datagram = holds-not-swallowing (getD ps (placeOf s ps) freePlace) (drop (72 * placeOf s ps) pool) b (own-kept now ps pool s g z (holds b) e refl)
 
   -- the bytes of the place are those of the unfinished datagram
-  bytes-are : take (sizeAt (placeOf s ps) ps) (drop (72 * placeOf s ps) pool) ≡ b
-  bytes-are = let q : holds (take (sizeAt (placeOf s ps) ps) (drop (72 * placeOf s ps) pool)) ≡ holds b = sym (at .bytes) ∙ e in cc
+  bytes-are : take size (drop (72 * placeOf s ps) pool) ≡ b
+  bytes-are =
+      let q : holds (take size (drop (72 * placeOf s ps) pool)) ≡ holds b =
+      sym (kept-bytes (getD ps (placeOf s ps) freePlace) (drop (72 * placeOf s ps) pool) datagram) ∙ own-kept now ps pool s g z (holds b) e refl in
+      cc
 
   enough : 72 ≤ length (drop (72 * placeOf s ps) pool)
   enough =
       let q : length ps ≡ 8 = z .eight in
       let m : length pool ≡ 576 = z .bytes in
-      let h = at .inside in
+      let h = home .inside in
       rw length-drop (omega arith)
 
-  size-is : sizeAt (placeOf s ps) ps ≡ length b
+  size-is : size ≡ length b
   size-is =
-      let l : sizeAt (placeOf s ps) ps ≤ 72 = good-short ps (placeOf s ps) g (isFor-held s _ (at .own)) (at .inside) in
+      let l : size ≤ 72 = good-short ps (placeOf s ps) g (isFor-held s _ (home .own)) datagram (home .inside) in
       let y = enough in
-      sym (length-take-le (sizeAt (placeOf s ps) ps) (drop (72 * placeOf s ps) pool) (omega arith)) ∙ ap length bytes-are
-
-  not-else : (t : ℕ) → s ≢ t → isFor t (getD ps (placeOf s ps) freePlace) ≡ false
-  not-else t n = isFor-not s t (getD ps (placeOf s ps) freePlace) n (at .own)
+      sym (length-take-le size (drop (72 * placeOf s ps) pool) (omega arith)) ∙ ap length bytes-are
 
   closes : (d : List ℕ) (v : Event) → length b + length d ≤ 72 → Step now (state ps pool) s (joined (closed d (placeOf s ps) (state ps pool)) v) (entry blank v)
   closes d v r =
       let m = size-is in
-      let y : sizeAt (placeOf s ps) ps + length d ≤ 72 = omega arith in
-      let w = gone now ps pool s (placeOf s ps) (sizeAt (placeOf s ps) ps) freePlace d g z (at .inside) (at .first) (place-last s ps g) not-else (free-place-fits s) (λ t u. free-place-else t) y (free-place-else s) in
-      changes now ps pool s (placeOf s ps) (sizeAt (placeOf s ps) ps) freePlace d g z (at .inside) (at .first) (place-last s ps g) not-else (free-place-fits s) (λ t u. free-place-else t) y v blank (inl refl) w
+      frees now ps pool s (placeOf s ps) size freePlace d g z (home .inside) (home .first) (place-last s ps g) (not-else now ps pool s g z (holds b) e refl)
+      (free-place-fits s) (omega arith) refl v
 
-  drops : (v : Event) → Step now (state ps pool) s (joined (dropped (placeOf s ps) (state ps pool)) v) (entry blank v)
-  drops v =
-      let w = gone now ps pool s (placeOf s ps) 0 freePlace [] g z (at .inside) (at .first) (place-last s ps g) not-else (free-place-fits s) (λ t u. free-place-else t) (omega arith) (free-place-else s) in
-      subst (λ (x : List ℕ). Step now (state ps pool) s (joined (state (set ps (placeOf s ps) freePlace) x) v) (entry blank v)) (put-nil (72 * placeOf s ps + 0) pool)
-      (changes now ps pool s (placeOf s ps) 0 freePlace [] g z (at .inside) (at .first) (place-last s ps g) not-else (free-place-fits s) (λ t u. free-place-else t) (omega arith) v blank (inl refl) w)
-
-  appends : (d : List ℕ) (v : Event) → isAccepted v ≡ true → s ≤ 4095 → length b + length d ≤ 72 →
-      Step now (state ps pool) s (joined (appended s d now (placeOf s ps) (state ps pool)) v) (entry (holds (b ++ d)) v)
-  appends d v ok l r =
+  appends : (d : List ℕ) → s ≤ 4095 → length b + length d ≤ 72 →
+      Step now (state ps pool) s (joined (appended s d now (placeOf s ps) (state ps pool)) noAnswer) (entry (holds (b ++ d)) noAnswer)
+  appends d l r =
       let m = size-is in
-      let y : sizeAt (placeOf s ps) ps + length d ≤ 72 = omega arith in
-      let p : Place = heldFor s (sizeAt (placeOf s ps) ps + length d) now in
-      let q : length ps ≡ 8 = z .eight in
-      let n : length pool ≡ 576 = z .bytes in
+      let y : size + length d ≤ 72 = omega arith in
+      let p : Place = heldFor s (size + length d) now in
       let x = enough in
-      changes now ps pool s (placeOf s ps) (sizeAt (placeOf s ps) ps) p d g z (at .inside) (at .first) (place-last s ps g) not-else
-      (λ u. (y, l, refl)) (λ t u. isFor-else t p u) y v (holds (b ++ d)) (inr (refl, refl, ok))
-      (unfinished-own s (placeOf s ps) (sizeAt (placeOf s ps) ps) p d ps pool (at .inside) (omega arith) (omega arith) (at .first) (isFor-self s p refl refl)
-      ∙ ap holds (take-put (sizeAt (placeOf s ps) ps) d (drop (72 * placeOf s ps) pool) (omega arith) ∙ ap (λ (u : List ℕ). u ++ d) bytes-are))
+      let pool' : List ℕ = drop (72 * placeOf s ps) pool in
+      takes now ps pool s (placeOf s ps) size p d g z (home .inside) (home .first) (place-last s ps g) (not-else now ps pool s g z (holds b) e refl)
+      (λ u. (λ n. y, l, refl)) y (isFor-self s p refl refl) noAnswer (holds (b ++ d)) (inr (inr (refl, refl, refl)))
+      (kept-bytes p (putAt size d pool') refl ∙ ap holds (take-put size d pool' (omega arith) ∙ ap (λ (u : List ℕ). u ++ d) bytes-are))
 
-opens : (now : ℕ) (ps : List Place) (pool : List ℕ) (s : ℕ) (d : List ℕ) (v : Event) → isAccepted v ≡ true → Good ps → Sized (state ps pool) → unfinishedIn ps pool s ≡ blank →
+-- ---- a source with nothing unfinished
+
+opens : (now : ℕ) (ps : List Place) (pool : List ℕ) (s : ℕ) (d : List ℕ) → Good ps → Sized (state ps pool) → unfinishedIn ps pool s ≡ blank →
     length d ≤ 72 → s ≤ 4095 → full ps ≡ false →
-    Step now (state ps pool) s (joined (opened s d now (state ps pool)) v) (entry (holds d) v)
-opens now ps pool s d v ok g z e l m f =
+    Step now (state ps pool) s (joined (opened s d now (freeIn ps) (state ps pool)) noAnswer) (entry (holds d) noAnswer)
+opens now ps pool s d g z e l m f =
     let a = blank-none s ps pool e in
     let o : Free ps (freeIn ps) = free ps f in
-    let p : Place = heldFor s (length d) now in
-    let q : length ps ≡ 8 = z .eight in
-    let n : length pool ≡ 576 = z .bytes in
-    let h : freeIn ps < length ps = o .inside in
-    let x : 0 + length d ≡ length d = omega arith in
-    changes now ps pool s (freeIn ps) 0 p d g z h (none-take s (freeIn ps) ps a) (none-drop s (suc (freeIn ps)) ps a)
-    (λ t u. isFor-free t (getD ps (freeIn ps) freePlace) (o .free)) (λ u. (l, m, refl)) (λ t u. isFor-else t p u) (omega arith) v (holds d) (inr (refl, refl, ok))
-    (unfinished-own s (freeIn ps) 0 p d ps pool h (omega arith) (omega arith) (none-take s (freeIn ps) ps a) (isFor-self s p refl refl)
-    ∙ ap holds (ap (λ (k : ℕ). take k (putAt 0 d (drop (72 * freeIn ps) pool))) (sym x) ∙ take-put 0 d (drop (72 * freeIn ps) pool) (omega arith)))
+    opens-at now ps pool s (freeIn ps) d g z (o .inside) (none-take s (freeIn ps) ps a) (none-drop s (suc (freeIn ps)) ps a)
+    (λ t u. isFor-free t (getD ps (freeIn ps) freePlace) (o .free)) l m
 
 fits-le : (b d : List ℕ) → fits b d ≡ true → length b + length d ≤ 72
 fits-le b d e = leb-true (length b + length d) 72 e
@@ -153,6 +218,7 @@ fits-le b d e = leb-true (length b + length d) 72 e
 abbrev pub entryOf : Bool → Role → List ℕ → Book → Entry
 entryOf f First d blank = cond f (entry blank (refuse bufferUnavailable)) (bookRule First d blank)
 entryOf f First d (holds b) = bookRule First d (holds b)
+entryOf f First d swallowing = bookRule First d swallowing
 entryOf f Ignored d b = bookRule Ignored d b
 entryOf f Single d b = bookRule Single d b
 entryOf f Middle d b = bookRule Middle d b
@@ -162,6 +228,7 @@ entryOf f Last d b = bookRule Last d b
 pub with-room : (f : Bool) (v : Role) (d : List ℕ) (b : Book) → (v ≡ First → b ≡ blank → f ≡ false) → entryOf f v d b ≡ bookRule v d b
 with-room f First d blank h = rw (h refl refl)
 with-room f First d (holds b) h = refl
+with-room f First d swallowing h = refl
 with-room f Ignored d b h = refl
 with-room f Single d b h = refl
 with-room f Middle d b h = refl
@@ -171,35 +238,39 @@ module _ (now s : ℕ) (d : List ℕ) (ps : List Place) (pool : List ℕ) (g : G
   abbrev Steps : Role → Book → Type 0
   Steps v b = Step now (state ps pool) s (joinRule v s d now (state ps pool) b) (entryOf (full ps) v d b)
 
+  short : (v : Role) → (v ≡ Ignored → ⊥) → ((v ≡ Ignored → ⊥) → length d ≤ 8) → length d ≤ 72
+  short v n l = omega (arith, l n)
+
   step : (v : Role) (b : Book) → unfinishedIn ps pool s ≡ b → ((v ≡ Ignored → ⊥) → length d ≤ 8) → Steps v b
   step Ignored b h l = stays now (state ps pool) s g z b ignored h (λ u. refl)
   step Single blank h l = stays now (state ps pool) s g z blank (finish d) h (λ u. clash (sym u))
-  step Single (holds b) h l = drops now ps pool s g z b h (refuse outOfOrder)
+  step Single (holds b) h l = keeps-after-refusal now ps pool s g z (holds b) h refl (refuse outOfOrder) refl m
+  step Single swallowing h l = drops now ps pool s g z swallowing h refl (finish d)
   step First blank h l = go (full ps) refl
     where
-      k : length d ≤ 8
-      k = l (λ e. let y : _≡_ {A = ℕ} 0 1 = cc in omega arith)
-
       go : (f : Bool) → full ps ≡ f → Steps First blank
       go true e = rw e (stays now (state ps pool) s g z blank (refuse bufferUnavailable) h (λ u. refl))
-      go false e = rw e (opens now ps pool s d noAnswer refl g z h (omega (arith, k)) m e)
-  step First (holds b) h l = drops now ps pool s g z b h (refuse outOfOrder)
+      go false e = rw e (opens now ps pool s d g z h (short First (λ e. let y : _≡_ {A = ℕ} 0 1 = cc in omega arith) l) m e)
+  step First (holds b) h l = keeps-after-refusal now ps pool s g z (holds b) h refl (refuse outOfOrder) refl m
+  step First swallowing h l = reopens now ps pool s g z swallowing h refl d (short First (λ e. let y : _≡_ {A = ℕ} 0 1 = cc in omega arith) l) m
   step Middle blank h l = stays now (state ps pool) s g z blank (refuse outOfOrder) h (λ u. refl)
   step Middle (holds b) h l = empty (eqb (length d) 0) refl
     where
       go : (t : Bool) → fits b d ≡ t → eqb (length d) 0 ≡ false → Steps Middle (holds b)
-      go true e q = rw (q, e) (appends now ps pool s g z b h d noAnswer refl m (fits-le b d e))
-      go false e q = rw (q, e) (drops now ps pool s g z b h (refuse temporaryError))
+      go true e q = rw (q, e) (appends now ps pool s g z b h d m (fits-le b d e))
+      go false e q = rw (q, e) (keeps-after-refusal now ps pool s g z (holds b) h refl (refuse temporaryError) refl m)
 
       empty : (t : Bool) → eqb (length d) 0 ≡ t → Steps Middle (holds b)
-      empty true q = rw q (drops now ps pool s g z b h (refuse outOfOrder))
+      empty true q = rw q (keeps-after-refusal now ps pool s g z (holds b) h refl (refuse outOfOrder) refl m)
       empty false q = go (fits b d) refl q
+  step Middle swallowing h l = renews now ps pool s g z swallowing h refl m
   step Last blank h l = stays now (state ps pool) s g z blank (refuse outOfOrder) h (λ u. refl)
   step Last (holds b) h l = go (fits b d) refl
     where
       go : (t : Bool) → fits b d ≡ t → Steps Last (holds b)
       go true e = rw e (closes now ps pool s g z b h d (finish (b ++ d)) (fits-le b d e))
-      go false e = rw e (drops now ps pool s g z b h (refuse temporaryError))
+      go false e = rw e (drops now ps pool s g z (holds b) h refl (refuse temporaryError))
+  step Last swallowing h l = drops now ps pool s g z swallowing h refl noAnswer
 
 -- a frame joined to a sound state in which nothing is due
 pub joins : (alias now : ℕ) (f : CanFrame) (st : State) → Good (st .places) → Sized st →

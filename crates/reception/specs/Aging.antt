@@ -23,8 +23,8 @@ isHouse nothing = false
 isHouse (transportRefusal code) = false
 isHouse (handled a) = false
 
--- Whether a call brings a frame that is accepted: one that is joined, so that it has no answer yet, or finishes a datagram. An ignored frame,
--- a transport refusal and a house number accept nothing, and a lone tick brings no frame.
+-- Whether a call brings a frame that is accepted: one that is joined or swallowed, so that it has no answer, or finishes a datagram. An ignored
+-- frame, a transport refusal and a house number accept nothing, and a lone tick brings no frame.
 abbrev pub acceptsFrame : {H A : Type 0} → Input → Answer H A → Bool
 acceptsFrame loneTick a = false
 acceptsFrame (frameInput f) (houseRefusal house) = false
@@ -52,7 +52,7 @@ lastFrom heard one s before st w (c ∷ cs) =
     let r = one st w c in
     lastFrom heard one s (cond (acceptsFrom s (heard c .input) (r .answer)) (heard c .time) before) (r .state) (r .world) cs
 
--- From a state with nothing unfinished on: of each unfinished datagram that is kept after the calls cs, the age that a call at the time t
+-- From a state with nothing unfinished on: of each place that is held after the calls cs, the age that a call at the time t
 -- reckons is the time since its source's last accepted frame, though that age is the difference of two ticks of 16 bits.
 abbrev pub TrueAges : {C H W A : Type 0} → (C → Timed) → (State → W → C → FrameResult H W A) → Type 0
 TrueAges {C} {H} {W} heard one =

@@ -3,7 +3,8 @@
 --   byte 1      the length
 --   bytes 2, 3  the source, least significant byte first
 --   bytes 4, 5  the tick, least significant byte first
---   bytes 6, 7  no meaning yet: not read, and 0 where a place is changed
+--   byte 6      its source is being swallowed, where it is not 0
+--   byte 7      no meaning yet: not read, and 0 where a place is changed
 use Prim.Native.Nat.{ℕ, zero, suc, _+_, _*_, _/_, _%_}
 use mathlib.Core.Bool.{Bool, cond, not, _&&_}
 use mathlib.Core.List.{List, [], _∷_, _++_}
@@ -16,6 +17,7 @@ use Rattle.reception.specs.Reception.{State, state}
 abbrev pub placeIn : List ℕ → Place
 placeIn bytes =
     place (not (eqb (getD bytes 0 0) 0)) (getD bytes 1 0) (getD bytes 2 0 + getD bytes 3 0 * 256) (getD bytes 4 0 + getD bytes 5 0 * 256)
+    (not (eqb (getD bytes 6 0) 0))
 
 -- The first n places.
 abbrev pub placesFrom : ℕ → List ℕ → List Place
@@ -36,12 +38,16 @@ startBytes = replicate 64 0
 
 -- The bytes of a place that is changed.
 abbrev pub placeBytes : Place → List ℕ
-placeBytes p = cond (p .held) 1 0 ∷ p .len ∷ p .source % 256 ∷ p .source / 256 ∷ p .tick % 256 ∷ p .tick / 256 ∷ 0 ∷ 0 ∷ []
+placeBytes p =
+    cond (p .held) 1 0 ∷ p .len ∷ p .source % 256 ∷ p .source / 256 ∷ p .tick % 256 ∷ p .tick / 256 ∷ cond (p .swallowing) 1 0 ∷ 0 ∷ []
 
--- Whether a place is as it was.
+-- Whether two truths are the same, and whether a place is as it was.
+abbrev pub same : Bool → Bool → Bool
+same a b = cond a b (not b)
+
 unfoldable pub samePlace : Place → Place → Bool
 samePlace p q =
-    cond (p .held) (q .held) (not (q .held)) && (eqb (p .len) (q .len) && (eqb (p .source) (q .source) && eqb (p .tick) (q .tick)))
+    same (p .held) (q .held) && (eqb (p .len) (q .len) && (eqb (p .source) (q .source) && (eqb (p .tick) (q .tick) && same (p .swallowing) (q .swallowing))))
 
 -- The bytes with their places changed to ps: a place that is as it was keeps all its bytes, and one that is changed gets them anew.
 abbrev pub renewed : List Place → List ℕ → List ℕ

@@ -1,5 +1,5 @@
--- Document 01, "Joining frames", 0x2040, 0x2000 and 0x2020 of "Refused because of the state", and B7, with C-14 of document 02: the
--- reception state, what a tick drops, and a frame joined to it.
+-- Document 01, "Joining frames", 0x2040, 0x2000 and 0x2020 of "Refused because of the state", and B7, with C-14 and C-15 of
+-- document 02: the reception state, what a tick drops, and a frame joined to it or swallowed.
 use Prim.Native.Nat.{ℕ, suc, _+_, _*_}
 use mathlib.Core.Bool.{Bool, true, false, cond, not, _&&_, _||_}
 use mathlib.Core.List.{List, [], _∷_, _++_}
@@ -9,9 +9,9 @@ use Rattle.buffer.specs.Buffer.{putAt}
 use Rattle.frame.specs.declared.Role.{Role}
 use Rattle.frame.specs.declared.Role.the-variants.{Ignored, Single, First, Middle, Last}
 use Rattle.frame.specs.Frame.{CanFrame, sourceOf, roleOf}
-use Rattle.reception.specs.Place.{Place, heldFor, freePlace}
+use Rattle.reception.specs.Place.{Place, heldFor, swallowingFor, freePlace}
 use Rattle.reception.specs.Ticks.{dropDue}
-use Rattle.reception.specs.Books.{Book, blank, holds, Event, ignored, noAnswer, refuse, finish, badState, outOfOrder, temporaryError, bufferUnavailable, fits}
+use Rattle.reception.specs.Books.{Book, blank, holds, swallowing, Event, ignored, noAnswer, refuse, finish, badState, outOfOrder, temporaryError, bufferUnavailable, fits}
 
 -- ---- the state
 
@@ -31,10 +31,15 @@ emptyPlaces = replicate 8 freePlace
 unfoldable pub isFor : ℕ → Place → Bool
 isFor s p = p .held && eqb (p .source) s
 
+-- What a held place has for its source, where its bytes lie at the front of the pool: the bytes of the unfinished datagram, or "only that it is
+-- being swallowed".
+unfoldable pub keptIn : Place → List ℕ → Book
+keptIn p pool = cond (p .swallowing) swallowing (holds (take (p .len) pool))
+
 -- "What the state has for a tool is the bytes of the unfinished datagram kept in it for that source, or nothing where it keeps none"
 abbrev pub unfinishedIn : List Place → List ℕ → ℕ → Book
 unfinishedIn [] pool s = blank
-unfinishedIn (p ∷ ps) pool s = cond (isFor s p) (holds (take (p .len) pool)) (unfinishedIn ps (drop 72 pool) s)
+unfinishedIn (p ∷ ps) pool s = cond (isFor s p) (keptIn p pool) (unfinishedIn ps (drop 72 pool) s)
 
 abbrev pub unfinishedFor : State → ℕ → Book
 unfinishedFor st s = unfinishedIn (st .places) (st .pool) s
@@ -48,7 +53,8 @@ abbrev pub freeIn : List Place → ℕ
 freeIn [] = 0
 freeIn (p ∷ ps) = cond (p .held) (suc (freeIn ps)) 0
 
--- Whether s has a place, and whether "eight others have one".
+-- Whether s has a place, and whether "eight others have one": "C-14's drop, 0x2020 and B7 count such places too", those of sources that are being
+-- swallowed.
 abbrev pub hasPlace : ℕ → List Place → Bool
 hasPlace s [] = false
 hasPlace s (p ∷ ps) = isFor s p || hasPlace s ps
@@ -59,9 +65,10 @@ full (p ∷ ps) = p .held && full ps
 
 -- ---- B7
 
--- "an unfinished datagram in it over 72 bytes, a source over 4,095, or one source twice": not so of the held place p beside the places ps.
+-- "an unfinished datagram in it over 72 bytes, a source over 4,095, or one source twice": not so of the held place p beside the places ps. One whose
+-- source is being swallowed holds no datagram, so nothing is asked of its length.
 abbrev pub soundBeside : List Place → Place → Bool
-soundBeside ps p = leb (p .len) 72 && (leb (p .source) 4095 && not (hasPlace (p .source) ps))
+soundBeside ps p = (p .swallowing || leb (p .len) 72) && (leb (p .source) 4095 && not (hasPlace (p .source) ps))
 
 -- Each place beside those behind it. A free place holds no datagram, so nothing is asked of its length and source; of ticks nothing is asked.
 abbrev pub sound : List Place → Bool
@@ -92,9 +99,9 @@ bytesAt i st = take (sizeAt i (st .places)) (drop (72 * i) (st .pool))
 abbrev pub dropped : ℕ → State → State
 dropped i st = state (set (st .places) i freePlace) (st .pool)
 
--- "First: opens one.", at the tick `now`
-abbrev pub opened : ℕ → List ℕ → ℕ → State → State
-opened s d now st = stored (freeIn (st .places)) (heldFor s (length d) now) 0 d st
+-- "First: opens one.", in place i and at the tick `now`
+abbrev pub opened : ℕ → List ℕ → ℕ → ℕ → State → State
+opened s d now i st = stored i (heldFor s (length d) now) 0 d st
 
 -- "Middle: appends.": it is the last accepted frame from now on
 abbrev pub appended : ℕ → List ℕ → ℕ → ℕ → State → State
@@ -104,6 +111,14 @@ appended s d now i st = stored i (heldFor s (sizeAt i (st .places) + length d) n
 abbrev pub closed : List ℕ → ℕ → State → State
 closed d i st = stored i freePlace (sizeAt i (st .places)) d st
 
+-- Place i is kept for s, which is being swallowed, and whose last accepted frame came at the tick `tick`. Nothing is left of its datagram.
+abbrev pub swallowed : ℕ → ℕ → ℕ → State → State
+swallowed s tick i st = state (set (st .places) i (swallowingFor s tick)) (st .pool)
+
+-- "its place is kept": after a refused frame, which is not an accepted one, so that the tick stays.
+abbrev pub keptAfterRefusal : ℕ → ℕ → State → State
+keptAfterRefusal s i st = swallowed s (getD (st .places) i freePlace .tick) i st
+
 -- The state after a frame, and what the frame brings about.
 pub record Joined : Type 0 where
   pub state : State
@@ -112,16 +127,13 @@ pub record Joined : Type 0 where
 abbrev pub joined : State → Event → Joined
 joined st e = record { state = st; event = e }
 
--- "Middle or Last that takes the total past 72 bytes: 0x2000, dropped": where the datagram b in place i and the data d fit, j.
-abbrev pub whereFits : ℕ → List ℕ → List ℕ → State → Joined → Joined
-whereFits i b d st j = cond (fits b d) j (joined (dropped i st) (refuse temporaryError))
-
--- A Middle and a Last for the datagram b in place i.
+-- A Middle and a Last for the datagram b in place i. "Middle or Last that takes the total past 72 bytes: 0x2000, dropped", and what follows the
+-- Middle is swallowed.
 abbrev pub middleAt : ℕ → ℕ → ℕ → List ℕ → List ℕ → State → Joined
-middleAt s now i b d st = whereFits i b d st (joined (appended s d now i st) noAnswer)
+middleAt s now i b d st = cond (fits b d) (joined (appended s d now i st) noAnswer) (joined (keptAfterRefusal s i st) (refuse temporaryError))
 
 abbrev pub lastAt : ℕ → List ℕ → List ℕ → State → Joined
-lastAt i b d st = whereFits i b d st (joined (closed d i st) (finish (b ++ d)))
+lastAt i b d st = cond (fits b d) (joined (closed d i st) (finish (b ++ d))) (joined (dropped i st) (refuse temporaryError))
 
 -- The rules, by what the frame is to the board, its source and data, and what the state has for that source.
 -- "Single, none unfinished from that source: a datagram, its own last frame."
@@ -129,17 +141,24 @@ lastAt i b d st = whereFits i b d st (joined (closed d i st) (finish (b ++ d)))
 -- unfinished datagram, if any, is dropped."
 -- "First from a source with none unfinished while eight others have one: 0x2020, nothing opened."
 -- "An empty Middle is tested before the total."
+-- "After 0x2040 or 0x2000 to a source that had a datagram unfinished, unless the refused frame was a Last, its place is kept, and that source's
+-- Middles are swallowed unanswered, empty ones too, until its next Last, which is swallowed and frees the place. A Single or First frees it and
+-- counts as if nothing were unfinished." A First then opens a datagram in the place that it frees.
 abbrev pub joinRule : Role → ℕ → List ℕ → ℕ → State → Book → Joined
 joinRule Ignored s d now st b = joined st ignored
 joinRule Single s d now st blank = joined st (finish d)
-joinRule Single s d now st (holds b) = joined (dropped (placeOf s (st .places)) st) (refuse outOfOrder)
-joinRule First s d now st blank = cond (full (st .places)) (joined st (refuse bufferUnavailable)) (joined (opened s d now st) noAnswer)
-joinRule First s d now st (holds b) = joined (dropped (placeOf s (st .places)) st) (refuse outOfOrder)
+joinRule Single s d now st (holds b) = joined (keptAfterRefusal s (placeOf s (st .places)) st) (refuse outOfOrder)
+joinRule Single s d now st swallowing = joined (dropped (placeOf s (st .places)) st) (finish d)
+joinRule First s d now st blank = cond (full (st .places)) (joined st (refuse bufferUnavailable)) (joined (opened s d now (freeIn (st .places)) st) noAnswer)
+joinRule First s d now st (holds b) = joined (keptAfterRefusal s (placeOf s (st .places)) st) (refuse outOfOrder)
+joinRule First s d now st swallowing = joined (opened s d now (placeOf s (st .places)) st) noAnswer
 joinRule Middle s d now st blank = joined st (refuse outOfOrder)
 joinRule Middle s d now st (holds b) =
-    cond (eqb (length d) 0) (joined (dropped (placeOf s (st .places)) st) (refuse outOfOrder)) (middleAt s now (placeOf s (st .places)) b d st)
+    cond (eqb (length d) 0) (joined (keptAfterRefusal s (placeOf s (st .places)) st) (refuse outOfOrder)) (middleAt s now (placeOf s (st .places)) b d st)
+joinRule Middle s d now st swallowing = joined (swallowed s now (placeOf s (st .places)) st) noAnswer
 joinRule Last s d now st blank = joined st (refuse outOfOrder)
 joinRule Last s d now st (holds b) = lastAt (placeOf s (st .places)) b d st
+joinRule Last s d now st swallowing = joined (dropped (placeOf s (st .places)) st) noAnswer
 
 -- A frame of a known role joined, at the tick `now`, to a state that B7 lets pass and in which nothing is due.
 unfoldable pub joinSound : Role → ℕ → List ℕ → ℕ → State → Joined

@@ -15,7 +15,8 @@ abbrev pub age : ℕ → ℕ → ℕ
 age now then = (now + 65536 - then) % 65536
 
 -- "an unfinished datagram whose source's last accepted frame is more than 3,000 ticks back is dropped ..; exactly 3,000 stays": whether
--- the place p holds one that is due at the tick `now`. A free place holds none, whatever tick stands in it.
+-- the place p is held and due at the tick `now`, though its source be swallowed: "C-14's drop, 0x2020 and B7 count such places too". A free place
+-- is never due, whatever tick stands in it.
 unfoldable pub isDue : ℕ → Place → Bool
 isDue now p = p .held && ltb 3000 (age now (p .tick))
 

@@ -50,8 +50,8 @@ dated b t = record { book = b; last = t }
 abbrev pub startBook : DatedBook
 startBook = dated blank 0
 
--- Whether a frame was accepted, by what it brought about: it was joined or finished a datagram. An ignored frame is not accepted, nor is a
--- refused one.
+-- Whether a frame was accepted, by what it brought about: it was joined, was swallowed or finished a datagram: "For demand 1 and C-14 a swallowed
+-- frame counts as accepted, a refused one doesn't." An ignored frame is not accepted.
 abbrev pub isAccepted : Event → Bool
 isAccepted ignored = false
 isAccepted noAnswer = true
@@ -60,7 +60,7 @@ isAccepted (finish d) = true
 isAccepted badState = false
 
 -- "an unfinished datagram whose source's last accepted frame is more than 3,000 ticks back is dropped without an answer; exactly 3,000
--- stays": the book at the time t.
+-- stays": the book at the time t. One that is being swallowed grows old as well.
 abbrev pub hearTime : ℕ → DatedBook → DatedBook
 hearTime t b = dated (cond (ltb (b .last + 3000) t) blank (b .book)) (b .last)
 

@@ -45,7 +45,7 @@ abbrev pub answerFrames : ℕ → ℕ → Answer → List ℕ → List Frame
 answerFrames board tool a buffer = transportFrames board tool (transportOf a) ++ replyFrames board tool a buffer
 
 -- The frames to send for the answer to a frame, from the board to the tool that the frame came from. House numbers are "never sent",
--- an ignored frame has "no answer", nor has one that is joined; a transport refusal is "Sent as Rejected".
+-- an ignored frame has "no answer", nor has one that is joined or swallowed; a transport refusal is "Sent as Rejected".
 unfoldable pub framesToSend : ℕ → ℕ → FrameAnswer → List ℕ → List Frame
 framesToSend board tool (Refused house) buffer = []
 framesToSend board tool Ignored buffer = []

@@ -9,18 +9,23 @@ use lib.Dec.{leb, ltb}
 use lib.ListN.{length, take, getD}
 use lib.Seq.{take-suc, getD-take}
 use borrow.Author.Tests.{ltb-true, ltb-false}
-use Rattle.buffer.proofs.Choice.{clash, by-test}
+use Rattle.buffer.proofs.Choice.{clash, by-test, and-left, and-right}
 use Rattle.reception.specs.Place.{Place, freePlace}
 use Rattle.reception.specs.Reception.{isFor, hasPlace, soundBeside}
 use Rattle.reception.specs.PlaceBytes.{placesIn}
 use Rattle.reception.proofs.PlaceLaws.{isFor-free, none-head, none-tail}
 use Rattle.reception.proofs.ByteLaws.{at-none}
+use Rattle.soundness.specs.Plain.{plainBeside}
 
 -- ---- one place more
 
 pub or-false : (b : Bool) → b || false ≡ b
 or-false true = refl
 or-false false = refl
+
+pub or-true : (b : Bool) → b || true ≡ true
+or-true true = refl
+or-true false = refl
 
 pub has-snoc : (s : ℕ) (xs : List Place) (p : Place) → hasPlace s (xs ++ p ∷ []) ≡ hasPlace s xs || isFor s p
 has-snoc s [] p = or-false (isFor s p)
@@ -63,12 +68,33 @@ and-three true b c = refl
 and-three false b c = refl
 
 module _ (ps : List Place) (p : Place) where
-  pub sound-free : p .held ≡ false → true ≡ (not (p .held) || soundBeside ps p)
-  sound-free u = rw u
+  pub plain-free : p .held ≡ false → true ≡ (not (p .held) || plainBeside ps p)
+  plain-free u = rw u
 
   module _ (u : p .held ≡ true) where
-    pub sound-not : (leb (p .len) 72 && leb (p .source) 4095) ≡ false → false ≡ (not (p .held) || soundBeside ps p)
-    sound-not e = rw (u, and-three (leb (p .len) 72) (leb (p .source) 4095) (not (hasPlace (p .source) ps)), e)
+    pub plain-not : (leb (p .len) 72 && leb (p .source) 4095) ≡ false → false ≡ (not (p .held) || plainBeside ps p)
+    plain-not e = rw (u, and-three (leb (p .len) 72) (leb (p .source) 4095) (not (hasPlace (p .source) ps)), e)
 
-    pub sound-alone : (leb (p .len) 72 && leb (p .source) 4095) ≡ true → not (hasPlace (p .source) ps) ≡ (not (p .held) || soundBeside ps p)
-    sound-alone e = rw (u, and-three (leb (p .len) 72) (leb (p .source) 4095) (not (hasPlace (p .source) ps)), e)
+    pub plain-alone : (leb (p .len) 72 && leb (p .source) 4095) ≡ true → not (hasPlace (p .source) ps) ≡ (not (p .held) || plainBeside ps p)
+    plain-alone e = rw (u, and-three (leb (p .len) 72) (leb (p .source) 4095) (not (hasPlace (p .source) ps)), e)
+
+  -- B7 asks less
+  pub plain-sound : (not (p .held) || plainBeside ps p) ≡ true → true ≡ (not (p .held) || soundBeside ps p)
+  plain-sound e =
+      by-test (p .held)
+      (λ u. let b : plainBeside ps p ≡ true = rw u at e in
+      rw (u, and-left (leb (p .len) 72) _ b, or-true (p .swallowing), and-right (leb (p .len) 72) _ b))
+      (λ u. rw u)
+
+  module _ (n : (not (p .held) || plainBeside ps p) ≡ false) where
+    pub held-not-plain : p .held ≡ true
+    held-not-plain = by-test (p .held) (λ u. u) (λ u. clash (rw u at n))
+
+    pub sound-not : p .swallowing ≡ false → false ≡ (not (p .held) || soundBeside ps p)
+    sound-not w = let u = held-not-plain in rw (u, w) (sym (rw u at n))
+
+    pub sound-large : p .swallowing ≡ true → leb (p .source) 4095 ≡ false → false ≡ (not (p .held) || soundBeside ps p)
+    sound-large w l = rw (held-not-plain, w, l)
+
+    pub sound-alone : p .swallowing ≡ true → leb (p .source) 4095 ≡ true → not (hasPlace (p .source) ps) ≡ (not (p .held) || soundBeside ps p)
+    sound-alone w l = rw (held-not-plain, w, l)

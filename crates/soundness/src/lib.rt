@@ -7,6 +7,7 @@ ghost use lib.ListN.{take, getD};
 ghost use Rattle.reception.specs.Place.{freePlace};
 ghost use Rattle.reception.specs.Reception.{soundBeside, hasPlace};
 ghost use Rattle.reception.specs.PlaceBytes.{placesIn};
+ghost use Rattle.soundness.specs.Plain.{plainBeside};
 
 // Whether an unfinished datagram may have so many bytes, and that source.
 fn may_hold(len: u8, source: u16) -> bool
@@ -18,7 +19,7 @@ fn may_hold(len: u8, source: u16) -> bool
     source <= 4095
 }
 
-// Whether one of the first n places holds a datagram of the source.
+// Whether one of the first n places is held for the source.
 fn is_among(places: &[u8; 64], n: usize, source: u16) -> bool
     requires { ⌜ n ≤ 8 ⌝ }
     ensures { λ r. ⌜ r ≡ hasPlace source (take n (placesIn (now (places .entry)))) ⌝ }
@@ -33,9 +34,10 @@ fn is_among(places: &[u8; 64], n: usize, source: u16) -> bool
     false
 }
 
-// What B7 asks of place i, where it is held. One source twice is found at the second of its places.
-pub fn is_sound_at(places: &[u8; 64], i: usize) -> bool
-    ensures { λ r. ⌜ r ≡ (not (getD (placesIn (now (places .entry))) i freePlace .held) || soundBeside (take i (placesIn (now (places .entry)))) (getD (placesIn (now (places .entry))) i freePlace)) ⌝ }
+// What B7 asks of place i, where it is held, and besides that its length is that of a datagram whether or not it holds one: so it is with all
+// places that the library has made. One source twice is found at the second of its places.
+pub fn is_plain_at(places: &[u8; 64], i: usize) -> bool
+    ensures { λ r. ⌜ r ≡ (not (getD (placesIn (now (places .entry))) i freePlace .held) || plainBeside (take i (placesIn (now (places .entry)))) (getD (placesIn (now (places .entry))) i freePlace)) ⌝ }
 {
     if !places::is_held(places, i) {
         return true;
@@ -45,4 +47,21 @@ pub fn is_sound_at(places: &[u8; 64], i: usize) -> bool
         return false;
     }
     !is_among(places, i, source)
+}
+
+// What B7 asks of place i, where it is held. A place whose source is being swallowed holds no datagram, so its length may be any.
+pub fn is_sound_at(places: &[u8; 64], i: usize) -> bool
+    ensures { λ r. ⌜ r ≡ (not (getD (placesIn (now (places .entry))) i freePlace .held) || soundBeside (take i (placesIn (now (places .entry)))) (getD (placesIn (now (places .entry))) i freePlace)) ⌝ }
+{
+    if is_plain_at(places, i) {
+        return true;
+    }
+    if !places::is_swallowing(places, i) {
+        return false;
+    }
+    let swallowed = places::source_at(places, i);
+    if 4095 < swallowed {
+        return false;
+    }
+    !is_among(places, i, swallowed)
 }

@@ -47,7 +47,7 @@ module _ (s : ℕ) (ps : List Place) (l : length ps ≡ 8) (free : (i : ℕ) →
   passes-free zero h = (omega arith, omega arith, tt, refl)
   passes-free (suc i) h =
       let p = passes-free i (omega arith) in
-      let q = sym (next-free s (take i ps) (getD ps i freePlace) i 8 (free i)) in
+      let q = sym (next-free false s (take i ps) (getD ps i freePlace) i 8 (free i)) in
       rw (sym (add-one i)) (⊎-elim (λ t. absurd (omega (arith, t .0))) (λ t. t) (turn s ps i l (omega arith) 8 8 p q))
 
   pub none-found : (now : ℕ) → looked 8 false ≡ lookedUp s now ps

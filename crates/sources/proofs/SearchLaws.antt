@@ -16,8 +16,8 @@ use Rattle.reception.specs.Place.{Place, freePlace}
 use Rattle.reception.specs.Ticks.{isDue}
 use Rattle.reception.specs.Reception.{isFor, placeOf, freeIn, hasPlace, soundBeside, sound}
 use Rattle.reception.proofs.PlaceLaws.{isFor-held, isFor-source, isFor-self, isFor-free, isFor-else, none-head, none-tail, Fine, Good, beside-fine, fine-beside, good-sound, sound-good, place-out}
-use Rattle.soundness.proofs.BesideLaws.{or-false, has-snoc, has-next, none-at}
-use Rattle.sources.specs.Search.{nextFound, anyDue, looked, lookedUp}
+use Rattle.soundness.proofs.BesideLaws.{or-false, has-snoc, has-next, none-at, plain-sound}
+use Rattle.sources.specs.Search.{passing, nextFound, anyDue, looked, lookedUp}
 
 -- ---- the first free place
 
@@ -76,22 +76,38 @@ good-fine (q ∷ ps) (suc i) g h u =
 
 -- ---- a turn of the search
 
-module _ (s : ℕ) (ps : List Place) (p : Place) (i found : ℕ) where
-  pub next-bad : (not (p .held) || soundBeside ps p) ≡ false → nextFound s ps p i found ≡ 9
+module _ (plain : Bool) (s : ℕ) (ps : List Place) (p : Place) (i found : ℕ) where
+  pub next-bad : passing plain ps p ≡ false → nextFound plain s ps p i found ≡ 9
   unfolding nextFound
   next-bad b = rw b
 
-  module _ (b : (not (p .held) || soundBeside ps p) ≡ true) where
-    pub next-here : isFor s p ≡ true → nextFound s ps p i found ≡ i
+  module _ (b : passing plain ps p ≡ true) where
+    pub next-here : isFor s p ≡ true → nextFound plain s ps p i found ≡ i
     unfolding nextFound
     next-here e = rw (b, e)
 
-    pub next-else : isFor s p ≡ false → nextFound s ps p i found ≡ found
+    pub next-else : isFor s p ≡ false → nextFound plain s ps p i found ≡ found
     unfolding nextFound
     next-else e = rw (b, e)
 
-  pub next-free : p .held ≡ false → nextFound s ps p i found ≡ found
+  pub next-free : p .held ≡ false → nextFound plain s ps p i found ≡ found
   next-free u = next-else (rw u) (isFor-free s p u)
+
+-- what passes by either test passes by B7
+passing-sound : (plain : Bool) (ps : List Place) (p : Place) → passing plain ps p ≡ true → (not (p .held) || soundBeside ps p) ≡ true
+passing-sound false ps p e = e
+passing-sound true ps p e = sym (plain-sound ps p e)
+
+-- by the stricter test the same is found, or 9
+pub plain-found : (plain : Bool) (s : ℕ) (ps : List Place) (p : Place) (i found x : ℕ) → x ≡ nextFound plain s ps p i found →
+    ((x ≡ 9) × (plain ≡ true)) ⊎ (x ≡ nextFound false s ps p i found)
+unfolding nextFound
+plain-found false s ps p i found x q = inr q
+plain-found true s ps p i found x q = go (passing true ps p) refl
+  where
+    go : (b : Bool) → passing true ps p ≡ b → ((x ≡ 9) × (true ≡ true)) ⊎ (x ≡ nextFound false s ps p i found)
+    go true e = inr (q ∙ rw (e, passing-sound true ps p e))
+    go false e = inl (q ∙ rw e, refl)
 
 -- what is found of s among the first i places
 abbrev seen : ℕ → List Place → ℕ → ℕ
@@ -124,7 +140,7 @@ module _ (s : ℕ) (ps : List Place) (i : ℕ) (l : length ps ≡ 8) (h : i < 8)
       go false q = q
 
   -- after place i B7 refuses the places, or one place more has passed
-  module _ (found x : ℕ) (inv : Passed s ps i found) (q : x ≡ nextFound s (take i ps) p i found) where
+  module _ (found x : ℕ) (inv : Passed s ps i found) (q : x ≡ nextFound false s (take i ps) p i found) where
     abbrev Turn : Type 0
     Turn = ((x ≡ 9) × (sound ps ≡ false)) ⊎ Passed s ps (i + 1) x
 
@@ -138,22 +154,22 @@ module _ (s : ℕ) (ps : List Place) (i : ℕ) (l : length ps ≡ 8) (h : i < 8)
     sounded u b true w =
         let f = beside-fine (take i ps) p b in
         let v = eqb-true (p .source) s w in
-        let y : x ≡ i = q ∙ next-here s (take i ps) p i found (rw (u, b)) (isFor-self s p u v) in
+        let y : x ≡ i = q ∙ next-here false s (take i ps) p i found (rw (u, b)) (isFor-self s p u v) in
         passes (omega arith) (λ o. f) (y ∙ sym (seen-here (rw v at (f .alone)) (isFor-self s p u v)))
     sounded u b false w =
         let v = eqb-false (p .source) s w in
-        goes-on (q ∙ next-else s (take i ps) p i found (rw (u, b)) (isFor-else s p v)) (isFor-else s p v) (λ o. beside-fine (take i ps) p b)
+        goes-on (q ∙ next-else false s (take i ps) p i found (rw (u, b)) (isFor-else s p v)) (isFor-else s p v) (λ o. beside-fine (take i ps) p b)
 
     tested : p .held ≡ true → (b : Bool) → soundBeside (take i ps) p ≡ b → Turn
     tested u true b = sounded u b (eqb (p .source) s) refl
-    tested u false b = inl (q ∙ next-bad s (take i ps) p i found (rw (u, b)), not-sound u b)
+    tested u false b = inl (q ∙ next-bad false s (take i ps) p i found (rw (u, b)), not-sound u b)
 
     pub turn : Turn
     turn = go (p .held) refl
       where
         go : (b : Bool) → p .held ≡ b → Turn
         go true u = tested u (soundBeside (take i ps) p) refl
-        go false u = goes-on (q ∙ next-free s (take i ps) p i found u) (isFor-free s p u) (λ o. clash (sym o ∙ u))
+        go false u = goes-on (q ∙ next-free false s (take i ps) p i found u) (isFor-free s p u) (λ o. clash (sym o ∙ u))
 
 -- ---- B7 by itself
 

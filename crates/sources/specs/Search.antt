@@ -5,13 +5,18 @@ use mathlib.Core.List.{List, [], _∷_}
 use Rattle.reception.specs.Place.{Place}
 use Rattle.reception.specs.Ticks.{isDue}
 use Rattle.reception.specs.Reception.{isFor, placeOf, soundBeside, sound}
+use Rattle.soundness.specs.Plain.{plainBeside}
 use Rattle.sources.specs.declared.Looked.{Looked}
 
--- What has been found of s after p, place i behind the places ps: 9 where B7 refuses p.
-unfoldable pub nextFound : ℕ → List Place → Place → ℕ → ℕ → ℕ
-nextFound s ps p i found = cond (not (p .held) || soundBeside ps p) (cond (isFor s p) i found) 9
+-- Whether the place p passes beside the places ps: by B7, or by the stricter test that is quicker.
+abbrev pub passing : Bool → List Place → Place → Bool
+passing plain ps p = not (p .held) || cond plain (plainBeside ps p) (soundBeside ps p)
 
--- Whether one of the places holds a datagram that is due at the tick `now`.
+-- What has been found of s after p, place i behind the places ps: 9 where p does not pass.
+unfoldable pub nextFound : Bool → ℕ → List Place → Place → ℕ → ℕ → ℕ
+nextFound plain s ps p i found = cond (passing plain ps p) (cond (isFor s p) i found) 9
+
+-- Whether one of the places is due at the tick `now`.
 abbrev pub anyDue : ℕ → List Place → Bool
 anyDue now [] = false
 anyDue now (p ∷ ps) = isDue now p || anyDue now ps

@@ -1,6 +1,7 @@
 // The eight places of the reception state looked through: for a source, with B7 and what is due, and for a free place.
 ghost use mathlib.Core.Path.{_≡_};
 ghost use mathlib.Core.Bool.{true, false, _||_};
+ghost use mathlib.Core.Logic.{_⊎_};
 ghost use Prim.Native.Nat.{ℕ};
 ghost use lib.Bits.{bitOr};
 ghost use lib.ListN.{take, getD};
@@ -8,11 +9,11 @@ ghost use Rattle.reception.specs.Place.{freePlace};
 ghost use Rattle.reception.specs.Ticks.{isDue};
 ghost use Rattle.reception.specs.Reception.{freeIn, sound};
 ghost use Rattle.reception.specs.PlaceBytes.{placesIn};
-ghost use Rattle.sources.specs.Search.{nextFound, lookedUp};
+ghost use Rattle.sources.specs.Search.{passing, nextFound, lookedUp};
 
 const PLACES: usize = 8;
 
-// What a search finds: the place of a source, 8 where there is none and 9 where B7 refuses the places; and whether a datagram is due.
+// What a search finds: the place of a source, 8 where there is none and 9 where B7 refuses the places; and whether a place is due.
 pub struct Looked {
     pub found: usize,
     pub due: bool,
@@ -32,8 +33,32 @@ pub fn find_free(places: &[u8; 64]) -> usize
     i
 }
 
-// Whether B7 lets the places pass.
-pub fn are_sound(places: &[u8; 64]) -> bool
+// Whether place i passes: by B7, or by the stricter test that is quicker.
+fn passes(places: &[u8; 64], i: usize, plain: bool) -> bool
+    ensures { λ r. ⌜ r ≡ passing plain (take i (placesIn (now (places .entry)))) (getD (placesIn (now (places .entry))) i freePlace) ⌝ }
+{
+    if plain {
+        return soundness::is_plain_at(places, i);
+    }
+    soundness::is_sound_at(places, i)
+}
+
+// Whether all places pass the stricter test.
+fn are_plain(places: &[u8; 64]) -> bool
+    ensures { λ r. ⌜ (r ≡ true → sound (placesIn (now (places .entry))) ≡ true) ⌝ }
+{
+    let mut i: usize = 0;
+    while i < PLACES {
+        if !soundness::is_plain_at(places, i) {
+            return false;
+        }
+        i += 1;
+    }
+    true
+}
+
+// Whether B7 lets each of the places pass.
+fn are_let_pass(places: &[u8; 64]) -> bool
     ensures { λ r. ⌜ r ≡ sound (placesIn (now (places .entry))) ⌝ }
 {
     let mut i: usize = 0;
@@ -46,11 +71,21 @@ pub fn are_sound(places: &[u8; 64]) -> bool
     true
 }
 
-// What the search for a source has found after place i, where it had `found` before: 9 where B7 refuses place i.
-fn next_found(places: &[u8; 64], i: usize, source: u16, found: usize) -> usize
-    ensures { λ r. ⌜ r ≡ nextFound source (take i (placesIn (now (places .entry)))) (getD (placesIn (now (places .entry))) i freePlace) i found ⌝ }
+// Whether B7 lets the places pass. The two tests are asked here by themselves: shared with the search, they would be kept apart from both, and slow.
+pub fn are_sound(places: &[u8; 64]) -> bool
+    ensures { λ r. ⌜ r ≡ sound (placesIn (now (places .entry))) ⌝ }
 {
-    if !soundness::is_sound_at(places, i) {
+    if are_plain(places) {
+        return true;
+    }
+    are_let_pass(places)
+}
+
+// What the search for a source has found after place i, where it had `found` before: 9 where place i does not pass.
+fn next_found(places: &[u8; 64], i: usize, source: u16, found: usize, plain: bool) -> usize
+    ensures { λ r. ⌜ r ≡ nextFound plain source (take i (placesIn (now (places .entry)))) (getD (placesIn (now (places .entry))) i freePlace) i found ⌝ }
+{
+    if !passes(places, i, plain) {
         return 9;
     }
     if places::is_for(places, i, source) {
@@ -73,21 +108,41 @@ fn held_of_last(places: &[u8; 64]) -> u8
     places[32] | places[40] | places[48] | places[56]
 }
 
-// Whether no place holds a datagram, asked of all eight at once: so it is for most frames.
+// Whether no place is held, asked of all eight at once: so it is for most frames.
 fn is_idle(places: &[u8; 64]) -> bool
     ensures { λ r. ⌜ (r ≡ true → (i : ℕ) → getD (placesIn (now (places .entry))) i freePlace .held ≡ false) ⌝ }
 {
     held_of_first(places) | held_of_last(places) == 0
 }
 
-// Whether a datagram is due after place i, where it was `due` before. Both are asked without a branch: that is quicker.
+// Whether a place is due up to place i, where one was `due` before it. Both are asked without a branch: that is quicker.
 fn next_due(places: &[u8; 64], i: usize, tick: u16, due: bool) -> bool
     ensures { λ r. ⌜ r ≡ (due || isDue tick (getD (placesIn (now (places .entry))) i freePlace)) ⌝ }
 {
     timeouts::is_due(places, i, tick) | due
 }
 
-// The place of a source, 8 where there is none, and whether a datagram is due at the tick; or 9 where B7 refuses the places.
+// The place of a source, 8 where there is none, and whether a place is due at the tick; or 9 where B7 refuses the places, or may do so where
+// they need only pass the stricter test.
+fn look_through(places: &[u8; 64], source: u16, tick: u16, plain: bool) -> Looked
+    ensures { λ r. ⌜ ((r .found ≡ 9) × (plain ≡ true)) ⊎ (r ≡ lookedUp source tick (placesIn (now (places .entry)))) ⌝ }
+{
+    let mut found: usize = PLACES;
+    let mut due: bool = false;
+    let mut i: usize = 0;
+    while i < PLACES {
+        found = next_found(places, i, source, found, plain);
+        if found == 9 {
+            return Looked { found, due: false };
+        }
+        due = next_due(places, i, tick, due);
+        i += 1;
+    }
+    Looked { found, due }
+}
+
+// The place of a source, 8 where there is none, and whether a place is due at the tick; or 9 where B7 refuses the places. All that the library has
+// made passes the stricter test, and takes no longer than before there was a place whose length means nothing.
 pub fn look_up(places: &[u8; 64], source: u16, tick: u16) -> Looked
     ensures { λ r. ⌜ r ≡ lookedUp source tick (placesIn (now (places .entry))) ⌝ }
 {
@@ -97,16 +152,9 @@ pub fn look_up(places: &[u8; 64], source: u16, tick: u16) -> Looked
             due: false,
         };
     }
-    let mut found: usize = PLACES;
-    let mut due: bool = false;
-    let mut i: usize = 0;
-    while i < PLACES {
-        found = next_found(places, i, source, found);
-        if found == 9 {
-            return Looked { found, due: false };
-        }
-        due = next_due(places, i, tick, due);
-        i += 1;
+    let quick = look_through(places, source, tick, true);
+    if quick.found == 9 {
+        return look_through(places, source, tick, false);
     }
-    Looked { found, due }
+    quick
 }

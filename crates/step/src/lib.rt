@@ -3,7 +3,7 @@ use frame::Role;
 ghost use mathlib.Core.Path.{_≡_};
 ghost use Prim.Native.Nat.{_+_};
 ghost use lib.Dec.{leb};
-ghost use Rattle.step.specs.Step.{stepOf, stepNew, stepMore};
+ghost use Rattle.step.specs.Step.{stepOf, stepNew, stepMore, stepSwallowed};
 
 // The most bytes that a datagram may have.
 const LONGEST: u16 = 72;
@@ -14,7 +14,8 @@ const TEMPORARY_ERROR: u16 = 0x2000;
 const OUT_OF_ORDER: u16 = 0x2040;
 
 // What a frame does. It is ignored; is a datagram by itself; opens one; is appended to the unfinished one; is appended to it and closes
-// it; or is refused with a code, and the unfinished one, if there is one, is dropped.
+// it; is refused with a code, and the place of its source, if it has one, becomes free; is refused, and what follows is swallowed; is
+// swallowed; or is swallowed and frees the place. A datagram by itself frees the place too, and one that is opened takes it.
 pub enum Step {
     Ignore,
     Deliver,
@@ -22,6 +23,9 @@ pub enum Step {
     Append,
     Close,
     Refuse(u16),
+    RefuseAndSwallow(u16),
+    Swallow,
+    SwallowLast,
 }
 
 // Whether a datagram may have so many bytes and so many more.
@@ -63,19 +67,19 @@ fn step_more(role: Role, len: u8, size: u8) -> Step
             return Step::Ignore;
         }
         Role::Single => {
-            return Step::Refuse(OUT_OF_ORDER);
+            return Step::RefuseAndSwallow(OUT_OF_ORDER);
         }
         Role::First => {
-            return Step::Refuse(OUT_OF_ORDER);
+            return Step::RefuseAndSwallow(OUT_OF_ORDER);
         }
         Role::Middle => {
             if size == 0 {
-                return Step::Refuse(OUT_OF_ORDER);
+                return Step::RefuseAndSwallow(OUT_OF_ORDER);
             }
             if fits(len, size) {
                 return Step::Append;
             }
-            return Step::Refuse(TEMPORARY_ERROR);
+            return Step::RefuseAndSwallow(TEMPORARY_ERROR);
         }
         Role::Last => {
             if fits(len, size) {
@@ -86,11 +90,38 @@ fn step_more(role: Role, len: u8, size: u8) -> Step
     }
 }
 
-// What a frame does: its role and the number of its data bytes, whether its source has a datagram unfinished, and of how many bytes.
-pub fn step_of(role: Role, size: u8, unfinished: bool, len: u8) -> Step
-    ensures { λ r. ⌜ r ≡ stepOf role size unfinished len ⌝ }
+// A frame from a source that is being swallowed.
+fn step_swallowed(role: Role) -> Step
+    ensures { λ r. ⌜ r ≡ stepSwallowed role ⌝ }
+{
+    match role {
+        Role::Ignored => {
+            return Step::Ignore;
+        }
+        Role::Single => {
+            return Step::Deliver;
+        }
+        Role::First => {
+            return Step::Open;
+        }
+        Role::Middle => {
+            return Step::Swallow;
+        }
+        Role::Last => {
+            return Step::SwallowLast;
+        }
+    }
+}
+
+// What a frame does: its role and the number of its data bytes, whether its source is unfinished, whether it is being swallowed then, and of
+// how many bytes its datagram is otherwise.
+pub fn step_of(role: Role, size: u8, unfinished: bool, swallowing: bool, len: u8) -> Step
+    ensures { λ r. ⌜ r ≡ stepOf role size unfinished swallowing len ⌝ }
 {
     if unfinished {
+        if swallowing {
+            return step_swallowed(role);
+        }
         return step_more(role, len, size);
     }
     step_new(role)

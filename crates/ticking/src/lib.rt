@@ -1,4 +1,4 @@
-// A lone tick, from the caller to what it leaves: B7 is tested, and what is due is dropped.
+// A lone tick, from the caller to what it leaves: B7 is tested, and the places that are due are freed.
 ghost use mathlib.Core.List.{List};
 ghost use Prim.Native.Nat.{ℕ};
 ghost use Rattle.reception.specs.PlaceBytes.{stateIn};

@@ -1,4 +1,5 @@
-// The unfinished datagrams that are due to be dropped: those whose source's last accepted frame is more than 3,000 ticks back.
+// The places that are due to be freed: those whose source's last accepted frame is more than 3,000 ticks back, whether they hold its unfinished
+// datagram or it is being swallowed.
 ghost use mathlib.Core.Path.{_≡_};
 ghost use mathlib.Core.Bool.{cond};
 ghost use Prim.Native.Nat.{_*_};
@@ -20,7 +21,7 @@ fn age_of(now: u16, then: u16) -> u16
     std::num::wrapping_sub_u16(now, then)
 }
 
-// Whether place i holds a datagram that is due at the tick.
+// Whether place i is held, and is due at the tick.
 pub fn is_due(places: &[u8; 64], i: usize, tick: u16) -> bool
     ensures { λ r. ⌜ r ≡ isDue tick (getD (placesIn (now (places .entry))) i freePlace) ⌝ }
 {
@@ -40,7 +41,7 @@ fn free_where(places: &mut [u8], i: usize, due: bool)
     holding::free(places, i);
 }
 
-// Every place freed that holds a datagram that is due. A place that is not changed keeps all its bytes.
+// Every place freed that is due. A place that is not changed keeps all its bytes.
 pub fn drop_due(places: &mut [u8; 64], tick: u16)
     ensures places { λ _. ⌜ placesIn (now (places .exit)) ≡ dropDue tick (placesIn (now (places .entry))) ⌝ }
     ensures renewal { λ _. ⌜ now (places .exit) ≡ renewed (dropDue tick (placesIn (now (places .entry)))) (now (places .entry)) ⌝ }

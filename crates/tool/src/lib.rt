@@ -24,10 +24,10 @@ ghost use Rattle.tool.specs.Composing.{Composes};
 ghost use Rattle.tool.specs.Joining.{joinedAs, joinedOf, outcomeIs};
 
 // The version of this edge, major in the upper 16 bits and minor in the lower: a header of the same major and of no greater minor fits.
-const VERSION: u32 = 0x00010000;
+const VERSION: u32 = 0x00020000;
 
-// What comes of joining a frame. The kinds: 0 the places are not sound, 1 ignored, 2 joined, 3 refused with `code`, 4 a datagram that is the
-// frame's data, 5 a datagram that is the part of the pool from `start` up to `end`. A number that its kind does not name is 0.
+// What comes of joining a frame. The kinds: 0 the places are not sound, 1 ignored, 2 joined or swallowed, 3 refused with `code`, 4 a datagram that
+// is the frame's data, 5 a datagram that is the part of the pool from `start` up to `end`. A number that its kind does not name is 0.
 #[repr(C)]
 pub struct JoinedFields {
     pub kind: u32,
@@ -38,7 +38,7 @@ pub struct JoinedFields {
 
 #[no_mangle]
 pub extern "C" fn bujorelm_tool_version() -> u32
-    ensures { λ r. ⌜ r ≡ 0x00010000 ⌝ }
+    ensures { λ r. ⌜ r ≡ 0x00020000 ⌝ }
 {
     VERSION
 }

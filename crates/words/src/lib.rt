@@ -6,7 +6,7 @@ ghost use Rattle.words.specs.Words.{refused, numbers, fieldsOf, inBytes}
 // What stands in the place of a position where there is none. No position is so great, and a position of 0 is the first space's.
 pub const NO_POSITION: u8 = 255;
 
-// What comes of a call. The kinds: 0 refused by the house number `house`, with the `position` of the refused space, 1 ignored, 2 joined and not answered, 3 refused by the transport
+// What comes of a call. The kinds: 0 refused by the house number `house`, with the `position` of the refused space, 1 ignored, 2 joined or swallowed and not answered, 3 refused by the transport
 // with `code`, 4 rejected with `code`, 5 a write that is done, Received OK with `flags` 0x00, and memory changed in `changed_len` bytes from
 // `changed_at` on, 6 Received OK with `flags` 0x80 and a reply of `reply_len` bytes, 7 Update Complete, Received OK with `flags` 0x00.
 // `frame_count` frames are to be sent. A number that its kind does not name is 0, but for the position, which is `NO_POSITION`.

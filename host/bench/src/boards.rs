@@ -4,7 +4,8 @@
 //! in room that the caller lends, on either side. The library does that in one call. The model
 //! does it in two, as its caller would write them: it handles the frame, and then writes the
 //! transport reply and the frames of the reply. Neither side allocates, and neither hands frames on
-//! by value. Every frame comes at one time, at which nothing is due; neither side knows that.
+//! by value. Every frame comes at a time at which nothing is due, mostly at one and the same; neither
+//! side knows that.
 
 use std::hint::black_box;
 
@@ -57,7 +58,8 @@ pub struct Blueprint {
 
 const BEGUN: [u8; 20] = [0x20; 20];
 const WRITE_LENGTHS: u8 = 0xF2;
-/// The tick of every call, and of the last accepted frame of what is unfinished at the start.
+/// The tick of every call that has no other, and of the last accepted frame of what is unfinished at
+/// the start.
 const TICK: u16 = 0;
 
 /// The board as a caller of the library keeps it.
@@ -110,6 +112,7 @@ impl LibraryBoard {
                 len: BEGUN.len() as u8,
                 source,
                 tick: TICK,
+                swallowing: false,
             };
             set_place(&mut places, index, canonical(Some(held)));
             pool[PLACE_BYTES * index..][..BEGUN.len()].copy_from_slice(&BEGUN);
@@ -131,6 +134,12 @@ impl LibraryBoard {
     /// sent, which are at the start of the room for them.
     #[inline]
     pub fn frame(&mut self, frame: &Incoming) -> ffi::Numbers {
+        self.frame_at(TICK, frame)
+    }
+
+    /// Feeds one frame in that comes at this tick.
+    #[inline]
+    pub fn frame_at(&mut self, tick: u16, frame: &Incoming) -> ffi::Numbers {
         let numbers = ffi::handle_frame(
             self.alias,
             WRITE_LENGTHS,
@@ -140,7 +149,7 @@ impl LibraryBoard {
             &mut self.lock,
             &mut self.pool,
             &mut self.places,
-            black_box(TICK),
+            black_box(tick),
             frame.header,
             frame.data(),
             &mut self.reply,
@@ -156,10 +165,18 @@ impl LibraryBoard {
         ffi::handle_tick(black_box(&mut self.places), black_box(TICK))
     }
 
-    /// How many datagrams are unfinished.
+    /// How many tools are unfinished.
     #[must_use]
     pub fn unfinished(&self) -> usize {
         unfinished(&self.places, &self.pool).count()
+    }
+
+    /// How many of them are being swallowed.
+    #[must_use]
+    pub fn swallowed(&self) -> usize {
+        unfinished(&self.places, &self.pool)
+            .filter(|entry| entry.swallowing)
+            .count()
     }
 
     /// The first so many frames of the room for them, as bytes.
@@ -197,6 +214,7 @@ impl ModelBoard {
                 length: BEGUN.len(),
                 bytes: &BEGUN,
                 last_accepted: u64::from(TICK),
+                swallowed: false,
             })
             .collect();
         Self {
@@ -217,6 +235,16 @@ impl ModelBoard {
     /// Where the board is refused.
     #[inline]
     pub fn frame(&mut self, frame: &Incoming) -> (FrameAnswer, usize) {
+        self.frame_at(u64::from(TICK), frame)
+    }
+
+    /// Feeds one frame in that comes at this time.
+    ///
+    /// # Panics
+    ///
+    /// Where the board is refused.
+    #[inline]
+    pub fn frame_at(&mut self, time: u64, frame: &Incoming) -> (FrameAnswer, usize) {
         let description = model::Description {
             alias: self.blueprint.alias,
             write_lengths: WRITE_LENGTHS,
@@ -229,7 +257,7 @@ impl ModelBoard {
             &mut self.memory,
             &mut self.lock,
             &mut self.reception,
-            black_box(u64::from(TICK)),
+            black_box(time),
             frame.header,
             frame.data(),
             &mut self.reply,
@@ -252,10 +280,19 @@ impl ModelBoard {
         model::handle_time(black_box(&mut self.reception), black_box(u64::from(TICK)))
     }
 
-    /// How many datagrams are unfinished.
+    /// How many tools are unfinished.
     #[must_use]
     pub fn unfinished(&self) -> usize {
         self.reception.unfinished().count()
+    }
+
+    /// How many of them are being swallowed.
+    #[must_use]
+    pub fn swallowed(&self) -> usize {
+        self.reception
+            .unfinished()
+            .filter(|entry| entry.swallowed)
+            .count()
     }
 
     /// The first so many frames of the room for them, as the library's bytes.

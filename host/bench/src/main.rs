@@ -8,7 +8,7 @@ use std::hint::black_box;
 use std::process::ExitCode;
 
 use bench::measure::{measure, Figures, Subject};
-use bench::scenes::{by_others, by_spaces, on_four_spaces, with_others};
+use bench::scenes::{by_others, by_spaces, on_four_spaces, swallowed_on, with_others};
 use bench::splitting::{chunk, split_by_library, split_by_model};
 use compare::ffi;
 
@@ -40,6 +40,7 @@ fn main() -> ExitCode {
         .iter()
         .map(|scenes| scenes.iter().map(Subject::of_scene).collect())
         .collect();
+    groups[2].push(swallowed(8));
     groups.push(smaller_calls());
     for group in &mut groups {
         group.retain(|subject| subject.name().contains(&wanted));
@@ -132,6 +133,13 @@ fn smaller_calls() -> Vec<Subject<'static>> {
         Subject::of_ticks(IDLE_TICK, &with_others(0)),
         Subject::of_ticks("lone tick, eight unfinished, none due", &with_others(8)),
     ]
+}
+
+/// Middles of so many tools that are being swallowed, of one after the other.
+fn swallowed(count: usize) -> Subject<'static> {
+    let board = with_others(count);
+    let name = format!("{count} being swallowed: Middle of one of them");
+    Subject::of_swallowed(&name, &board, swallowed_on(&board))
 }
 
 /// A datagram cut into frames, on either side into lent room.

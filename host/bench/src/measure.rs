@@ -5,8 +5,9 @@ use std::hint::black_box;
 use std::time::Instant;
 
 use crate::boards::{Blueprint, LibraryBoard, ModelBoard};
-use crate::scenes::Scene;
+use crate::scenes::{Scene, Swallowed};
 use compare::answer::Answer;
+use model::FrameAnswer;
 
 /// A multiple of four: the stack stands at each of its four places in a cache line equally often.
 const SWEEPS: usize = 12;
@@ -88,6 +89,57 @@ impl<'s> Subject<'s> {
                 for _ in 0..times {
                     for frame in &scene.frames {
                         black_box(model.frame(black_box(frame)));
+                    }
+                }
+            },
+        )
+    }
+
+    /// Frames that are swallowed, each one tick behind the one before, so that a place is written
+    /// with each of them; after a test that both sides swallow them. All tools that are unfinished
+    /// on the board are being swallowed and send one frame of each round: none of them grows old.
+    ///
+    /// # Panics
+    ///
+    /// Where a side does not swallow them.
+    #[must_use]
+    pub fn of_swallowed(name: &str, blueprint: &Blueprint, frames: Swallowed) -> Self {
+        let mut library = LibraryBoard::new(blueprint);
+        let mut model = ModelBoard::new(blueprint);
+        let Swallowed {
+            breaking,
+            swallowed,
+        } = frames;
+        for frame in &breaking {
+            let refused = Answer::TransportRefusal(0x2040);
+            assert_eq!(Answer::from(library.frame(frame)), refused, "{name}");
+            assert_eq!(Answer::from(Ok(model.frame(frame).0)), refused, "{name}");
+        }
+        for frame in &swallowed {
+            let numbers = library.frame(frame);
+            assert_eq!(Answer::from(numbers), Answer::Nothing, "{name}");
+            assert_eq!(model.frame(frame), (FrameAnswer::Nothing, 0), "{name}");
+        }
+        assert_eq!(library.swallowed(), blueprint.others.len(), "{name}");
+        assert_eq!(model.swallowed(), blueprint.others.len(), "{name}");
+        let model_swallowed = swallowed.clone();
+        let (mut library_time, mut model_time) = (0u64, 0u64);
+        Self::new(
+            name,
+            swallowed.len(),
+            move |times| {
+                for _ in 0..times {
+                    for frame in &swallowed {
+                        library_time += 1;
+                        black_box(library.frame_at(library_time as u16, black_box(frame)));
+                    }
+                }
+            },
+            move |times| {
+                for _ in 0..times {
+                    for frame in &model_swallowed {
+                        model_time += 1;
+                        black_box(model.frame_at(model_time, black_box(frame)));
                     }
                 }
             },

@@ -62,6 +62,28 @@ pub fn with_others(count: usize) -> Blueprint {
     board
 }
 
+/// Frames of tools that have a datagram unfinished, one of each tool.
+pub struct Swallowed {
+    /// These break the datagrams.
+    pub breaking: Vec<Incoming>,
+    /// These are then swallowed: Middles of 8 bytes.
+    pub swallowed: Vec<Incoming>,
+}
+
+/// Such frames of the tools of this board.
+#[must_use]
+pub fn swallowed_on(board: &Blueprint) -> Swallowed {
+    let middle = |source: &u16, data: &[u8]| {
+        let header = 0x1C << 24 | u32::from(ALIAS) << 12 | u32::from(*source);
+        Incoming::new(header, data)
+    };
+    let others = || board.others.iter();
+    Swallowed {
+        breaking: others().map(|source| middle(source, &[])).collect(),
+        swallowed: others().map(|source| middle(source, &[0x5A; 8])).collect(),
+    }
+}
+
 /// The frames that carry a datagram from the tool to the board.
 fn frames(datagram: &[u8]) -> Vec<Incoming> {
     model::cut(datagram, ALIAS, TOOL)

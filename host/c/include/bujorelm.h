@@ -10,8 +10,8 @@
  * compiler is stopped below where the platform or the layout of a struct is not the library's.
  *
  * The library joins the datagram frames that a board receives, handles each finished datagram, and gives the frames that the board sends
- * back. "Document 01" below is the paper that fixes its behaviour, and "C-14" the change request of that name in document 02, which does so for
- * ticks. docs/DRIVER.md shows how a driver uses it.
+ * back. "Document 01" below is the paper that fixes its behaviour, and "C-14" and "C-15" the change requests of these names in document 02, which
+ * do so for ticks and for what follows on a broken datagram. docs/DRIVER.md shows how a driver uses it.
  *
  * Rules that hold for every function:
  *
@@ -51,7 +51,7 @@ extern "C" {
 
 /* The version of this header: major in the upper 16 bits, minor in the lower 16. Another major is another interface; a greater minor has
    more, and all that a smaller one has. bujorelm_version_fits compares it with the archive's. */
-#define BUJORELM_VERSION 0x00040000u
+#define BUJORELM_VERSION 0x00050000u
 
 /* ---- Sizes ---- */
 
@@ -68,12 +68,13 @@ extern "C" {
 /* The most bytes of a sentence that bujorelm_sentence_of writes, with the zero byte that ends it. */
 #define BUJORELM_SENTENCE_SIZE 96u
 
-/* Sources that may each have one unfinished datagram, and the bytes of the pool: 72 for each of them. */
+/* Sources that may each have a place, for one unfinished datagram or while they are being swallowed, and the bytes of the pool: 72 for each
+   of them. */
 #define BUJORELM_PLACES 8u
 #define BUJORELM_POOL_SIZE 576u
 
-/* The greatest age of an unfinished datagram, in ticks since its source's last accepted frame: an older one is dropped. And the bound on the
-   ticks from one call that brings a tick to the next: fewer than these may pass (see "Ticks" below). */
+/* The greatest age of a place that is held, in ticks since its source's last accepted frame: an older one is freed, and what it held dropped.
+   And the bound on the ticks from one call that brings a tick to the next: fewer than these may pass (see "Ticks" below). */
 #define BUJORELM_AGE_MAX 3000u
 #define BUJORELM_TICKS_BOUND 62000u
 
@@ -99,19 +100,21 @@ extern "C" {
 /* ---- Numbers ---- */
 
 /* What came of a call: `kind` in struct bujorelm_result. What is to be sent is among the frames that bujorelm_handle_frame gives. A call that
-   brings a tick and is not refused, of whatever kind it then is, has first dropped the unfinished datagrams that were too old. */
+   brings a tick and is not refused, of whatever kind it then is, has first freed the places that were too old. */
 enum bujorelm_kind {
     /* Refused because of what the caller handed in; `house` says why, and `position` which space is wrong. Nothing is sent and nothing has
-       changed: nothing is dropped either. */
+       changed: no place is freed for its age either. */
     BUJORELM_REFUSED = 0,
     /* Not a frame for this board: another header, another destination, the board's own alias as source, a header over 29 bits, data
-       over 8 bytes. Nothing is sent, and nothing has changed but that unfinished datagrams that were too old are dropped. */
+       over 8 bytes. Nothing is sent, and nothing has changed but that places that were too old are free. */
     BUJORELM_IGNORED = 1,
-    /* Of a frame: joined to an unfinished datagram, or the first of one. Of a lone tick: not refused. Nothing is sent; the reception state
-       may have changed. */
+    /* Of a frame: joined to an unfinished datagram, the first of one, or swallowed, as what is left of a broken one is (C-15). Of a lone tick:
+       not refused. Nothing is sent; the reception state may have changed. A frame that is swallowed is not told apart, since a driver does
+       nothing for it either; that its source is being swallowed stands in the source's place before the call. */
     BUJORELM_JOINED = 2,
     /* A frame that does not follow on the ones before it. Rejected is sent with `code`, which is 0x2000, 0x2020 or 0x2040. The reception
-       state may have changed: the source's unfinished datagram, if any, is dropped. */
+       state may have changed: the source's unfinished datagram, if any, is dropped, and unless the frame was a Last its place is kept and
+       the source is being swallowed from now on. A source that is being swallowed never gets this kind. */
     BUJORELM_TRANSPORT_REFUSAL = 3,
     /* A finished datagram that is refused. Rejected is sent with `code`, which is 0x1041, 0x1042 or 0x1080. Memory and lock are as they
        were. */
@@ -155,8 +158,9 @@ enum bujorelm_house {
     /* The reply buffer has fewer than 72 bytes. */
     BUJORELM_HOUSE_B6 = 6,
     /* In bujorelm_handle_frame, and the only one in bujorelm_handle_tick: the reception state holds an unfinished datagram over 72 bytes, or
-       one from a source over 4,095, or two from one source. A state that starts all zero and is changed by calls alone never does. It is
-       tested before anything is dropped, and asks nothing of the ticks in the state. */
+       a place for a source over 4,095, or two places for one source. A place whose source is being swallowed counts like any other, but holds
+       no datagram, so that nothing is asked of its length. A state that starts all zero and is changed by calls alone has none of it. It is
+       tested before any place is freed for its age, and asks nothing of the ticks in the state. */
     BUJORELM_HOUSE_B7 = 7
     /* B9 belongs to bujorelm_cut alone, which then makes no frame and returns 0. */
 };
@@ -184,12 +188,15 @@ enum bujorelm_code {
     BUJORELM_CODE_OUT_OF_BOUNDS = 0x1082,
     /* In a failure reply: a write to a read-only space. */
     BUJORELM_CODE_READ_ONLY = 0x1083,
-    /* In Rejected, a transport refusal: a Middle or Last that takes the datagram past 72 bytes. It is dropped. */
+    /* In Rejected, a transport refusal: a Middle or Last that takes the datagram past 72 bytes. It is dropped; behind a Middle its source is
+       being swallowed, and behind a Last its place is free. */
     BUJORELM_CODE_TEMPORARY = 0x2000,
-    /* In Rejected, a transport refusal: a First while eight other sources have a datagram unfinished. Nothing is opened. */
+    /* In Rejected, a transport refusal: a First of a source that has no place while eight others have one, for an unfinished datagram or while
+       they are being swallowed. Nothing is opened, and nothing is kept for the source. */
     BUJORELM_CODE_BUFFER_UNAVAILABLE = 0x2020,
-    /* In Rejected, a transport refusal: a Single or First while its source has a datagram unfinished, an empty Middle, or a Middle or
-       Last while it has none, as after one that was dropped for its age. Its unfinished datagram, if any, is dropped. */
+    /* In Rejected, a transport refusal: a Single, a First or an empty Middle while its source has a datagram unfinished, which is dropped, and
+       the source is being swallowed; or a Middle or Last of a source that has no place, as behind a datagram that was dropped for its age:
+       then nothing is kept for the source. */
     BUJORELM_CODE_OUT_OF_ORDER = 0x2040
 };
 
@@ -233,21 +240,25 @@ struct bujorelm_lock {
     uint8_t bytes[6];
 };
 
-/* A place for an unfinished datagram: whether it holds one (any byte but 0), how many bytes of it have come, the alias that it comes from,
-   and the tick of that source's last accepted frame. The bytes that have come are in the pool, from index 72 times the place's own on.
-   `unused` means nothing, and where the place holds no datagram `len`, `source` and `tick` mean nothing either. A place that a call changes
-   has 1 in `held` and zeros in `unused` afterwards, or is all zero where it holds no datagram any more; a place that the call does not
-   change keeps all its bytes. */
+/* A place for one source: whether it is held (any byte but 0), how many bytes of the source's unfinished datagram have come, the source's
+   alias, the tick of its last accepted frame, and whether it is being swallowed (any byte but 0): then the place holds no datagram, and `len`
+   means nothing. The bytes that have come are in the pool, from index 72 times the place's own on. `unused` means nothing, and where `held`
+   is 0 nothing else in the place means anything either.
+
+   A place that a call changes gets all its bytes anew: 1 in `held` and 0 in `unused`; 1 in `swallowing` and 0 in `len` where its source is
+   being swallowed, and 0 in `swallowing` where it holds a datagram; all zero where it is free. A place that the call does not change keeps all
+   its bytes. So it is with a Middle that is swallowed at the very tick that the place has already, where `len` is 0. */
 struct bujorelm_place {
     uint8_t held;
     uint8_t len;
     uint16_t source;
     uint16_t tick;
-    uint8_t unused[2];
+    uint8_t swallowing;
+    uint8_t unused;
 };
 
-/* The reception state, but for the bytes in the pool: all zero at the start, when nothing is unfinished; what the pool holds then does not
-   matter. The two belong together: keep both from one call to the next. */
+/* The reception state, but for the bytes in the pool: all zero at the start, when nothing is unfinished and nobody is being swallowed; what the
+   pool holds then does not matter. The two belong together: keep both from one call to the next. */
 struct bujorelm_reception {
     struct bujorelm_place places[BUJORELM_PLACES];
 };
@@ -336,7 +347,8 @@ BUJORELM_AT(place, held, 0);
 BUJORELM_AT(place, len, 1);
 BUJORELM_AT(place, source, 2);
 BUJORELM_AT(place, tick, 4);
-BUJORELM_AT(place, unused, 6);
+BUJORELM_AT(place, swallowing, 6);
+BUJORELM_AT(place, unused, 7);
 
 BUJORELM_SIZE(reception, 64);
 BUJORELM_AT(reception, places, 0);
@@ -380,19 +392,35 @@ uint32_t bujorelm_version(void);
 
 /*
  * Ticks (C-14). The driver keeps a free-running count of 16 bits, which goes from 65,535 to 0, and hands it in with each frame and, by
- * bujorelm_handle_tick, alone. Before a frame is looked at, even one that is ignored, and at a lone tick, each unfinished datagram whose
- * source's last accepted frame is more than 3,000 ticks back is dropped without an answer; one that is just 3,000 back stays. Accepted are
- * the frames that open, continue or finish a datagram. One that is ignored or refused (0x2000, 0x2020, 0x2040) does not renew the tick.
+ * bujorelm_handle_tick, alone. Before a frame is looked at, even one that is ignored, and at a lone tick, each place whose source's last accepted
+ * frame is more than 3,000 ticks back is freed without an answer: its unfinished datagram is dropped, or its source is no longer swallowed. One
+ * that is just 3,000 back stays. Accepted are the frames that open, continue or finish a datagram, and those that are swallowed. A frame that is
+ * ignored or refused (0x2000, 0x2020, 0x2040) does not renew the tick: a place that is kept behind a refused frame keeps the tick of the last
+ * accepted one.
  *
  * What the driver must see to, for each reception state:
  *
- * - One count, in both calls, which never goes back from one call to the next: a datagram that meets an earlier count than its own looks up to
- *   65,535 ticks old, and is dropped too early. How long a tick lasts is the driver's choice; of milliseconds, 3,000 are 3 seconds.
+ * - One count, in both calls, which never goes back from one call to the next: a place that meets an earlier count than its own looks up to
+ *   65,535 ticks old, and is freed too early. How long a tick lasts is the driver's choice; of milliseconds, 3,000 are 3 seconds.
  * - Fewer than 62,000 ticks between two calls that bring one and that no house number refuses: on a quiet bus, a lone tick at least so
  *   often. What such a call keeps is at most 3,000 ticks old, so that it is less than 65,000 old at the next, and the 16-bit difference of
- *   the ticks is its true age. After a longer pause the count may have gone round: then a datagram may look younger than it is and stay
- *   until a later call finds it too old. Meanwhile it is unfinished like any other, with what follows for its source's next frame and for a
- *   ninth source. None is dropped too early by that. While nothing is unfinished, any pause will do.
+ *   the ticks is its true age. After a longer pause the count may have gone round: then a place may look younger than it is and stay held
+ *   until a later call finds it too old. Meanwhile it is held like any other, with what follows for its source's next frame and for a
+ *   ninth source. None is freed too early by that. While no place is held, any pause will do.
+ */
+
+/*
+ * One rejection for one broken datagram (C-15). A tool whose Last is lost goes on with its next frames, and hears one Rejected for it. Where a
+ * frame is refused with 0x2040 or 0x2000 and its source had a datagram unfinished, that is dropped, and unless the frame was a Last the source
+ * keeps its place and is being swallowed:
+ *
+ * - Its Middles are answered with nothing, empty ones and those past 72 bytes too, and so is its next Last, which frees the place.
+ * - Its next Single or First ends the swallowing as well, and counts as if nothing were unfinished: the Single is a datagram and frees the place,
+ *   the First opens one in that very place, so that there is always room for it.
+ * - Its place counts among the eight and grows old like any other.
+ *
+ * Behind a refused Last, behind 0x2020, and where a datagram's First was lost, the source has no place: each Middle and Last is then refused by
+ * itself, with 0x2040. None of this asks anything of the driver, which sends what it is given.
  */
 
 /*
@@ -421,8 +449,8 @@ uint32_t bujorelm_version(void);
  *
  * What never happens: a byte of memory changes for any kind but BUJORELM_WRITTEN, or outside the bytes that it names; a byte of the lock
  * changes but by a Lock/Reserve that is replied to; a byte of the reply buffer is written for any kind but BUJORELM_REPLIED, or behind its
- * first `reply_len`; a byte of `frames` is written behind the first `frame_count`; any byte of anything changes for BUJORELM_REFUSED, or for
- * BUJORELM_IGNORED but in the places whose datagrams were too old.
+ * first `reply_len`; a byte of `frames` is written behind the first `frame_count`; a byte of the pool changes by a frame that is swallowed or
+ * gets a transport refusal; any byte of anything changes for BUJORELM_REFUSED, or for BUJORELM_IGNORED but in the places that were too old.
  */
 struct bujorelm_result bujorelm_handle_frame(uint16_t alias, uint8_t write_lengths, const struct bujorelm_space *spaces,
                                              size_t spaces_size, const uint8_t *flash, size_t flash_len, uint8_t *memory,
@@ -432,16 +460,16 @@ struct bujorelm_result bujorelm_handle_frame(uint16_t alias, uint8_t write_lengt
                                              struct bujorelm_frame *frames);
 
 /*
- * Brings a tick alone, for the time in which no frame comes: drops the unfinished datagrams that are too old, and does nothing else. The
- * pool is not needed for it.
+ * Brings a tick alone, for the time in which no frame comes: frees the places that are too old, and does nothing else. The pool is not needed
+ * for it.
  *
  * reception      lent; the reception state
  * tick           the driver's tick now, by the same count as in bujorelm_handle_frame
  *
  * Comes back: BUJORELM_REFUSED with B7, the only house number that is tested here, and then nothing has changed; or else BUJORELM_JOINED,
- * whether or not anything was dropped. Nothing is to be sent.
+ * whether or not any place was freed. Nothing is to be sent.
  *
- * What never happens: a byte of a place changes that holds no datagram, or one that is not too old.
+ * What never happens: a byte of a place changes that is not held, or that is not too old.
  */
 struct bujorelm_result bujorelm_handle_tick(struct bujorelm_reception *reception, uint16_t tick);
 
@@ -658,8 +686,8 @@ static inline struct bujorelm_result bujorelm_node_handle_datagram(struct bujore
    and brings no tick. */
 static inline struct bujorelm_result bujorelm_node_check(const struct bujorelm_node *node)
 {
-    /* Header 0 is no datagram frame: a good node ignores it and a bad one is refused, so that nothing is written through this pointer. What
-       is too old by some tick is dropped from a copy of the reception state. */
+    /* Header 0 is no datagram frame: a good node ignores it and a bad one is refused, so that nothing is written through this pointer. Places
+       that are too old by some tick are freed in a copy of the reception state. */
     struct bujorelm_node *const same = (struct bujorelm_node *)(uintptr_t)node;
     struct bujorelm_reception copy = node->reception;
 

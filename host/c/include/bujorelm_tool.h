@@ -10,7 +10,7 @@
  *   and an empty text are told apart, and so are no lowest space and space 0, no lowest address and address 0.
  * - bujorelm_join joins the frames of a reply datagram.
  *
- * "C-12" below is the change request of that name in document 02.
+ * "C-12" and "C-15" below are the change requests of these names in document 02.
  */
 #ifndef BUJORELM_TOOL_H
 #define BUJORELM_TOOL_H
@@ -22,7 +22,7 @@ extern "C" {
 #endif
 
 /* The version of this header, in the form of BUJORELM_VERSION. bujorelm_tool_version_fits compares it with the archive's. */
-#define BUJORELM_TOOL_VERSION 0x00010000u
+#define BUJORELM_TOOL_VERSION 0x00020000u
 
 /* The fewest bytes that the buffer for a command must have. */
 #define BUJORELM_COMMAND_MIN 72u
@@ -85,9 +85,11 @@ enum bujorelm_joined_kind {
     BUJORELM_JOINED_BAD_STATE = 0,
     /* No datagram frame for this tool. Nothing has changed. */
     BUJORELM_JOINED_IGNORED = 1,
-    /* Joined to an unfinished datagram, or the first frame of one. */
+    /* Joined to an unfinished datagram, the first frame of one, or swallowed, as what is left of a broken one is (C-15). There is nothing to be
+       sent. */
     BUJORELM_JOINED_PART = 2,
-    /* A frame that does not follow on the ones before it; `code` is 0x2000, 0x2020 or 0x2040, as in bujorelm_handle_frame. */
+    /* A frame that does not follow on the ones before it; `code` is 0x2000, 0x2020 or 0x2040, as in bujorelm_handle_frame. The board's unfinished
+       datagram, if any, is dropped, and unless the frame was a Last, the rest of it is swallowed. */
     BUJORELM_JOINED_REFUSED = 3,
     /* A datagram is finished: it is the frame's data. */
     BUJORELM_JOINED_IN_FRAME = 4,
@@ -292,9 +294,13 @@ struct bujorelm_reply bujorelm_read_reply(const uint8_t *datagram, size_t datagr
  *
  * A finished datagram is read before the next call: its bytes are the frame's data, or in the pool.
  *
- * Every frame has the tick 0 here, so that what is unfinished does not grow old: in a state that starts all zero and is changed by these calls
- * alone, no place has another tick. In any other state what is more than 3,000 ticks back from 0 is dropped before the frame is looked at, even
- * one that is ignored.
+ * What follows on a broken datagram is as in bujorelm_handle_frame (C-15): unless it was a Last that was refused, the board keeps its place and is
+ * being swallowed. Its Middles and its next Last, which frees the place, are then BUJORELM_JOINED_PART; its Single or First ends the swallowing and
+ * counts as if nothing were unfinished. So there is one Rejected to send for a datagram that breaks behind its First.
+ *
+ * Every frame has the tick 0 here, so that no place grows old, of an unfinished datagram or of a board that is being swallowed: in a state that
+ * starts all zero and is changed by these calls alone, no place has another tick. In any other state a place whose tick is more than 3,000 back from
+ * 0 is freed before the frame is looked at, even one that is ignored.
  */
 struct bujorelm_joined bujorelm_join(uint16_t alias, uint8_t *pool, struct bujorelm_reception *reception, uint32_t header,
                                      const uint8_t *payload, size_t payload_len);

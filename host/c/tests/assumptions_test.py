@@ -13,7 +13,7 @@ import sys
 ROW = re.compile(r"\| [^|]* \| (`[^|]*\.antt`) \| (\d+) \|")
 FILE = re.compile(r"`([a-z]+/specs/[A-Za-z]+\.antt)`")
 # Definitions of a crate's inside, and the paper's examples: the page names them as crates.
-INSIDE = ("outcome/", "sources/", "step/", "demonstration/")
+INSIDE = ("outcome/", "soundness/", "sources/", "step/", "demonstration/")
 
 
 def lines_of(path):

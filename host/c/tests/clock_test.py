@@ -1,5 +1,5 @@
-"""Tests when the reference host drops an unfinished datagram: to the millisecond, across the wrap of its tick and after pauses of any length. The
-host is one whose clock is set here (tests/clock.c).
+"""Tests when the reference host drops an unfinished datagram, or a source that is being swallowed: to the millisecond, across the wrap of its tick
+and after pauses of any length. The host is one whose clock is set here (tests/clock.c).
 
 Usage: python3 clock_test.py HOST
 """
@@ -107,6 +107,21 @@ def test_age():
     play([(0, first(1), ""), (3000, IGNORED, ""), (3001, last(1), rejected(1, "2040"))], "an ignored frame does not")
 
 
+def test_swallowed():
+    """A tool that is being swallowed is so for 3,000 ms after its last accepted frame: the refused one renews nothing, and a swallowed one does."""
+    broken = [(0, first(1), ""), (1000, first(1), rejected(1, "2040"))]
+    stray = rejected(1, "2040")
+    play([*broken, (3000, middle(1), ""), (6000, middle(1, ""), ""), (9000, last(1), ""), (9000, last(1), stray)], "frames in time")
+    play([*broken, (3000, last(1), ""), (3000, last(1), stray)], "a Last in time")
+    play([*broken, (3001, middle(1), stray), (3001, last(1), stray), (3001, first(1), ""), (3001, last(1), ok(1))], "a Middle too late")
+    play([*broken, (3000, middle(1), ""), (6001, last(1), stray)], "a Middle renews once")
+    play([*broken, (3000, IGNORED, ""), (3001, last(1), stray)], "an ignored frame renews nothing")
+    play([*broken, (3000, first(1), ""), (6000, last(1), ok(1))], "a First in time")
+    play([*broken, (3000, ":X1A22B001N20A8;", ok(1)), (3000, middle(1), stray)], "a Single in time")
+    for pause in (3001, 62000, 65535, 65536, 65537, 68536, 1 << 32):
+        play([*broken, (2000, middle(1), ""), (2000 + pause, last(1), stray)], "a pause", FEW_BEGINNINGS)
+
+
 def test_pauses():
     """After a pause of any length, what was unfinished is dropped: also where the count has gone round, and the tick is as it was. Before the
     pause it may have been as old as it can be."""
@@ -122,10 +137,14 @@ def test_places():
     begun = [(10 * source, first(source), "") for source in range(1, 9)]
     play([*begun, (3010, first(9), rejected(9, "2020")), (3011, first(9), ""), (3011, first(10), rejected(10, "2020"))], "the first is too old")
     play([*begun, (3080, first(9), ""), (3080, last(8), ok(8)), (3080, last(7), rejected(7, "2040"))], "all but the last are too old")
+    # Tools that are being swallowed do so too, and take none of the time anew by the frame that is refused.
+    begun += [(500, middle(source, ""), rejected(source, "2040")) for source in range(1, 9)]
+    play([*begun, (3010, first(9), rejected(9, "2020")), (3011, first(9), ""), (3011, first(10), rejected(10, "2020"))], "the first is too old")
+    play([*begun, (3080, first(9), ""), (3080, last(8), ""), (3080, last(7), rejected(7, "2040"))], "all but the last are too old")
 
 
 def main():
-    for test in (test_age, test_pauses, test_places):
+    for test in (test_age, test_swallowed, test_pauses, test_places):
         test()
     print("clock_test.py: the host drops what is unfinished when its time has come")
 

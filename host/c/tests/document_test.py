@@ -58,6 +58,16 @@ def check_refusals(text, program, build, folder):
         expect((done.returncode, done.stdout, done.stderr), (1, "", f"{sentence}\n"), f"what the program prints with .{field} = {value}")
 
 
+def check_broken(text, host):
+    """The frames of a broken datagram, and what the board answers to each. Behind each goes a line that is no frame, so that an answer is known from
+    the next one's."""
+    rows = re.findall(r"^\| `(:X\w+;)` \| [^|]+ \| (?:`(:X\w+;)`|nothing) \|$", text, re.M)
+    expect(len(rows), 8, "the frames of a broken datagram")
+    done = subprocess.run([host], input="".join(f"{line}\n?\n" for line, _ in rows), stdout=subprocess.PIPE, check=True, text=True)
+    wanted = "".join(f"{answer}\n?\n" if answer else "?\n" for _, answer in rows)
+    expect(done.stdout, wanted, "what the board answers to a broken datagram")
+
+
 def check_host(text):
     """The bounds of the host."""
     host = source("host/c/host.c")
@@ -92,6 +102,7 @@ def main():
         output(["sh", "-eu", "-c", shell[1]], cwd=folder)
         expect(output(["./board"], cwd=folder), outputs[0], "what the program prints")
         expect(output(["sh", "-eu", "-c", shell[2]], cwd=folder), outputs[1], "what the host prints")
+        check_broken(text, os.path.join(folder, "host"))
         check_refusals(text, program[0], shell[1], folder)
 
     # The figures of the stack. They differ a little between compilers, so only the calls and the bound must agree.

@@ -1,5 +1,5 @@
-"""Tests of the reference host: document 01's session and odd lines on standard input, several tools at once on TCP, and unfinished datagrams
-that grow old.
+"""Tests of the reference host: document 01's session and odd lines on standard input, several tools at once on TCP, unfinished datagrams that grow
+old, and broken ones, which are rejected once.
 
 Usage: python3 host_test.py HOST [STEP]
 
@@ -57,6 +57,12 @@ SESSION_OUT = b"""\
 
 OPTIONS = b":X1A22B123N2080;\n"
 OPTIONS_OUT = b":X19A2822BN012380;\n:X1A12322BN2082E000F2FF10;\n"
+
+# A write of 24 bytes in a First, Middles and a Last, and what is answered to the Last of it; and to a frame that does not follow on those before.
+WRITE = [b":X1B22B123N2001000000000102;\n", b":X1C22B123N030405060708090A;\n", b":X1C22B123N0B0C0D0E0F101112;\n", b":X1D22B123N131415161718;\n"]
+WRITE_OUT = b":X19A2822BN012300;\n"
+OUT_OF_ORDER = b":X19A4822BN01232040;\n"
+READ_BACK = b":X1A22B123N20410000001602;\n"
 
 
 def expect(got, wanted, what):
@@ -155,6 +161,30 @@ def test_lines():
     expect(len(lines), 9, "the frames of a long reply")
     expect(lines[1], b":X1B12322BN2052000000000000;", "its First")
     expect(lines[7], b":X1D12322BN000000000000;", "its Last")
+
+
+def read_back_out(hexes):
+    return b":X19A2822BN012380;\n:X1A12322BN205100000016" + hexes + b";\n"
+
+
+def test_broken():
+    """A datagram that breaks is rejected once; what is left of it is swallowed up to its Last, and sent again it is done."""
+    first, *rest = WRITE
+    whole = b"".join(WRITE)
+    done = WRITE_OUT + read_back_out(b"1718")
+    for text, wanted, what in (
+        (b"".join(WRITE[:-1]) + whole + whole + READ_BACK, OUT_OF_ORDER + done, "a Last that is lost"),
+        (first + whole + READ_BACK, OUT_OF_ORDER + read_back_out(b"0000"), "a First too many, and nothing sent again"),
+        (first + first + whole + READ_BACK, OUT_OF_ORDER + done, "a datagram that is sent again at once"),
+        (first + OPTIONS + b"".join(rest) + whole + READ_BACK, OUT_OF_ORDER + done, "a Single in between"),
+        (first + OPTIONS + OPTIONS + whole + READ_BACK, OUT_OF_ORDER + OPTIONS_OUT + done, "a Single that ends the swallowing"),
+        (first + b":X1C22B123N;\n" + b"".join(rest) + whole + READ_BACK, OUT_OF_ORDER + done, "an empty Middle"),
+        (first + first + 30 * rest[0] + 3 * b":X1C22B123N;\n" + rest[-1] + whole + READ_BACK, OUT_OF_ORDER + done, "many that are swallowed"),
+        (first + 30 * rest[0] + rest[-1] + whole + READ_BACK, b":X19A4822BN01232000;\n" + done, "a datagram that is too long"),
+        # Behind the Last that is swallowed, and where the First is lost, each frame gets its own.
+        (first + whole + b"".join(rest) + whole + READ_BACK, 4 * OUT_OF_ORDER + done, "strays behind a broken datagram"),
+    ):
+        expect(run(text), wanted, what)
 
 
 def test_answers_before_next_read():
@@ -364,6 +394,29 @@ def test_two_tools():
         two.expect(b":X1A22B789N20410000000202;\n" + wanted, "the view of it")
         two.close()
         three.close()
+
+
+def test_two_tools_broken():
+    """While a tool is being swallowed, another is served; both see the one rejection."""
+    with Hub() as hub:
+        one, two = hub.tool(), hub.tool()
+        one.send(WRITE[0])
+        two.expect(WRITE[0], "the First")
+        for line, answer in ((WRITE[0], OUT_OF_ORDER), *((line, b"") for line in WRITE[1:])):
+            one.send(line)
+            one.expect(answer, "the sender's view of a broken datagram")
+            two.expect(line + answer, "the other tool's view of a broken datagram")
+            two.send(b":X1A22B456N20A8;\n")
+            two.expect(b":X19A2822BN045600;\n", "the other tool's own answer")
+            one.expect(b":X1A22B456N20A8;\n:X19A2822BN045600;\n", "the view of the other tool's")
+        for line in WRITE:
+            one.send(line)
+        one.expect(WRITE_OUT, "the answer to the datagram that is sent again")
+        two.expect(b"".join(WRITE) + WRITE_OUT, "the view of it")
+        one.expect_nothing("more than one rejection")
+        two.expect_nothing("more than one rejection")
+        one.close()
+        two.close()
 
 
 def test_many_tools():
@@ -694,10 +747,12 @@ def test_usage():
 TESTS = (
     test_session,
     test_lines,
+    test_broken,
     test_answers_before_next_read,
     test_nobody_reads,
     test_nonblocking,
     test_two_tools,
+    test_two_tools_broken,
     test_many_tools,
     test_slow_tool,
     test_ended_tool,

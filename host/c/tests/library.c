@@ -1,8 +1,8 @@
 /*
  * Tests of the library through its C interface: document 01's session and whole datagrams, every house number and transport refusal, the
  * bounds of every lent buffer, which bytes a write changes, the frames that are given to be sent, every value of the bytes that say yes or
- * no and of those that mean nothing, unfinished datagrams of every age, the GridConnect functions and the line splitter, the inline functions
- * of the header, and pseudo-random calls.
+ * no and of those that mean nothing, unfinished datagrams of every age, what is swallowed behind a broken datagram, the GridConnect functions
+ * and the line splitter, the inline functions of the header, and pseudo-random calls.
  *
  * Usage: library [how many pseudo-random frames]
  */
@@ -177,13 +177,14 @@ static bool same_node(const struct bujorelm_node *a, const struct bujorelm_node 
            memcmp(a->pool, b->pool, sizeof a->pool) == 0;
 }
 
-/* Whether the places say the same: two that hold nothing do, whatever else is in them. */
+/* Whether the places say the same: two that are free do, whatever else is in them. Lengths are compared also where the source is being swallowed:
+   they mean nothing there, but a frame that is swallowed leaves none, and then the place has changed. */
 static bool says_the_same(const struct bujorelm_place *a, const struct bujorelm_place *b)
 {
     if (a->held == 0 || b->held == 0) {
         return a->held == b->held;
     }
-    return a->len == b->len && a->source == b->source && a->tick == b->tick;
+    return a->len == b->len && a->source == b->source && a->tick == b->tick && (a->swallowing != 0) == (b->swallowing != 0);
 }
 
 /* Whether the place has just the bytes that a call gives to one that it changes. */
@@ -194,11 +195,10 @@ static bool is_canonical(const struct bujorelm_place *p)
     if (p->held == 0) {
         return memcmp(p, zeros, sizeof *p) == 0;
     }
-    return p->held == 1 && memcmp(p->unused, zeros, sizeof p->unused) == 0;
+    return p->held == 1 && p->unused == 0 && (p->swallowing == 0 || (p->swallowing == 1 && p->len == 0));
 }
 
-/* Whether a place holds a datagram that is too old at a tick. A tick that is the smaller of the two has gone round: the way leads over
-   65,536. */
+/* Whether a place is held and too old at a tick. A tick that is the smaller of the two has gone round: the way leads over 65,536. */
 static bool is_too_old(const struct bujorelm_place *p, uint16_t tick)
 {
     const int age = tick >= p->tick ? tick - p->tick : 65536 - p->tick + tick;
@@ -206,7 +206,7 @@ static bool is_too_old(const struct bujorelm_place *p, uint16_t tick)
     return p->held != 0 && age > 3000;
 }
 
-/* The places at a tick, before any frame is looked at: those whose datagrams are too old are all zero, and the others keep every byte. */
+/* The places at a tick, before any frame is looked at: those that are too old are all zero, and the others keep every byte. */
 static struct bujorelm_reception kept_at(const struct bujorelm_reception *before, uint16_t tick)
 {
     struct bujorelm_reception kept = *before;
@@ -255,6 +255,25 @@ static size_t places_held(const struct bujorelm_node *node)
 static bool nothing_unfinished(const struct bujorelm_node *node)
 {
     return places_held(node) == 0;
+}
+
+/* A place that a call has freed; one that holds so many bytes of a datagram; and one whose source is being swallowed. */
+static const struct bujorelm_place free_place = {.held = 0};
+
+static struct bujorelm_place holding_place(uint16_t source, uint16_t tick, size_t len)
+{
+    return (struct bujorelm_place){.held = 1, .len = (uint8_t)len, .source = source, .tick = tick};
+}
+
+static struct bujorelm_place swallowed_place(uint16_t source, uint16_t tick)
+{
+    return (struct bujorelm_place){.held = 1, .source = source, .tick = tick, .swallowing = 1};
+}
+
+/* Whether a place has just these bytes. */
+static bool is_place(const struct bujorelm_node *node, size_t index, struct bujorelm_place place)
+{
+    return memcmp(&node->reception.places[index], &place, sizeof place) == 0;
 }
 
 /* The header of a frame with these top five bits. */
@@ -439,11 +458,12 @@ static struct bujorelm_result feed_lent(const struct board *b, const struct lent
 static void test_layout(void)
 {
     static const uint8_t eight[8] = {1, 2, 3, 4, 5, 6, 7, 8};
-    /* As bytes, and not by the header's structs: Middle to 0x22B, of 0x123, in place 7, at tick 0xABCD, and what is 3,000 ticks old then in
-       place 0; and the frame that 8 bytes are cut into. */
-    static const uint8_t place_0[8] = {1, 72, 0xFF, 0x0F, 0x15, 0xA0, 0xAA, 0x55};
-    static const uint8_t place_7[8] = {1, 64, 0x23, 0x01, 0x00, 0xAB, 0x11, 0x22};
+    /* As bytes, and not by the header's structs: Middle to 0x22B, of 0x123, in place 7, at tick 0xABCD, and one Middle too many; a source that is
+       being swallowed and is 3,000 ticks old then in place 0; and the frame that 8 bytes are cut into. */
+    static const uint8_t place_0[8] = {0xA5, 0xFF, 0xFF, 0x0F, 0x15, 0xA0, 0xAA, 0x55};
+    static const uint8_t place_7[8] = {1, 64, 0x23, 0x01, 0x00, 0xAB, 0, 0x22};
     static const uint8_t place_7_after[8] = {1, 72, 0x23, 0x01, 0xCD, 0xAB, 0, 0};
+    static const uint8_t place_7_swallowed[8] = {1, 0, 0x23, 0x01, 0xCD, 0xAB, 1, 0};
     static const uint8_t single[16] = {0xEF, 0xCD, 0xAB, 0x1A, 8, 0, 0, 0, 1, 2, 3, 4, 5, 6, 7, 8};
     static const uint8_t received_ok[16] = {0x2B, 0x82, 0xA2, 0x19, 3, 0, 0, 0, 0x0F, 0x23, 0x80, 0, 0, 0, 0, 0};
     static const uint8_t locked[8] = {0x20, 0x88, 1, 2, 3, 4, 5, 6};
@@ -467,6 +487,11 @@ static void test_layout(void)
         CHECK(is_answer(answer, BUJORELM_JOINED, 0, 0, 0, 0));
         CHECK(memcmp(l.places.bytes, places, 64) == 0);
         /* The data went to the end of the pool, and nothing else was touched. */
+        CHECK(is_untouched(l.pool.bytes, 0, 568) && memcmp(l.pool.bytes + 568, eight, 8) == 0);
+        answer = feed_lent(&b, &l, header_of(MIDDLE, 0x22B, 0x123), eight + 1, 1);
+        CHECK(is_answer(answer, BUJORELM_TRANSPORT_REFUSAL, 0, 0, 0x2000, 0));
+        memcpy(places + 56, place_7_swallowed, 8);
+        CHECK(memcmp(l.places.bytes, places, 64) == 0);
         CHECK(is_untouched(l.pool.bytes, 0, 568) && memcmp(l.pool.bytes + 568, eight, 8) == 0);
 
         /* The lock is changed where it lies. */
@@ -976,6 +1001,9 @@ static void test_result_bytes(void)
     board_new(&b, &d, 0, BUJORELM_STORE_MAX, BUJORELM_REPLY_MIN);
     CHECK(has_bytes(feed_hex(&b, LAST, 0x123, ""), "03000000 4020 00 00 00000000 00 00 01 FF"));
     CHECK(has_bytes(feed_hex(&b, FIRST, 0x123, ""), "02000000 0000 00 00 00000000 00 00 00 FF"));
+    CHECK(has_bytes(feed_hex(&b, FIRST, 0x123, ""), "03000000 4020 00 00 00000000 00 00 01 FF"));
+    CHECK(has_bytes(feed_hex(&b, MIDDLE, 0x123, "00"), "02000000 0000 00 00 00000000 00 00 00 FF"));
+    CHECK(has_bytes(feed_hex(&b, LAST, 0x123, ""), "02000000 0000 00 00 00000000 00 00 00 FF"));
     CHECK(has_bytes(feed(&b, 0, NULL, 0), "01000000 0000 00 00 00000000 00 00 00 FF"));
     CHECK(has_bytes(call_tick(&b), "02000000 0000 00 00 00000000 00 00 00 FF"));
     b.node.reception.places[7].held = 1;
@@ -1045,7 +1073,7 @@ static void test_left_out(void)
    datagram lacks. */
 static void check_refused_at(struct board *b, uint8_t house, uint8_t position, bool datagrams, const char *word)
 {
-    /* Would be a write, and the opening of a datagram. */
+    /* Would be a write, the opening of a datagram, and frames that are joined or swallowed. */
     static const uint8_t write[] = {0x20, 0x01, 0, 0, 0, 0, 0x77};
     const struct bujorelm_node before = b->node;
     uint8_t *const memory = malloc(b->memory.len + 1);
@@ -1056,6 +1084,8 @@ static void check_refused_at(struct board *b, uint8_t house, uint8_t position, b
     memcpy(memory, b->memory.bytes, b->memory.len);
     CHECK_CASE(is_house_at(feed(b, header_of(SINGLE, 0x22B, 0x123), write, sizeof write), house, position), word);
     CHECK_CASE(is_house_at(feed(b, header_of(FIRST, 0x22B, 0x124), write, sizeof write), house, position), word);
+    CHECK_CASE(is_house_at(feed(b, header_of(MIDDLE, 0x22B, 0x123), write, 1), house, position), word);
+    CHECK_CASE(is_house_at(feed(b, header_of(LAST, 0x22B, 0x124), NULL, 0), house, position), word);
     CHECK_CASE(is_house_at(feed(b, 0, NULL, 0), house, position), word);
     if (datagrams) {
         CHECK_CASE(is_house_at(hand_over(b, write, sizeof write), house, position), word);
@@ -1085,7 +1115,8 @@ static void check_draft_refused_at(const struct draft *d, size_t flash_len, size
                                                              .len = (uint8_t)(70 + i),
                                                              .source = 5,
                                                              .tick = (uint16_t)(b.tick - 1000 * i),
-                                                             .unused = {(uint8_t)i, 0xFF}};
+                                                             .swallowing = (uint8_t)(i % 3),
+                                                             .unused = 0xFF};
     }
     b.node.lock.bytes[2] = 9;
     check_refused_at(&b, house, position, true, word);
@@ -1321,6 +1352,60 @@ static void test_bad_states(void)
     board_free(&b);
 }
 
+/* A state that B7 refuses, in every call that is lent it, and one that it does not. */
+static void check_bad_state(struct board *b, const char *word)
+{
+    const struct bujorelm_reception before = b->node.reception;
+
+    check_refused(b, BUJORELM_HOUSE_B7, false, word);
+    CHECK_CASE(is_house(bujorelm_node_check(&b->node), BUJORELM_HOUSE_B7), word);
+    CHECK_CASE(is_house(call_tick(b), BUJORELM_HOUSE_B7) && same_places(&b->node.reception, &before), word);
+}
+
+static void check_good_state(struct board *b, const char *word)
+{
+    const struct bujorelm_reception before = b->node.reception;
+
+    CHECK_CASE(bujorelm_node_check(&b->node).kind == BUJORELM_IGNORED, word);
+    CHECK_CASE(is_joined(call_tick(b)) && same_places(&b->node.reception, &before), word);
+}
+
+/* Of a place whose source is being swallowed B7 asks for the source, as of any other, and not for a length. */
+static void test_bad_swallowed_states(void)
+{
+    static const uint8_t lens[] = {0, 1, 72, 73, 128, 255};
+    struct bujorelm_place *places;
+    struct board b;
+
+    board_demonstration(&b);
+    places = b.node.reception.places;
+    for (size_t i = 0; i < sizeof lens; i++) {
+        places[7] = (struct bujorelm_place){.held = 1, .len = lens[i], .source = 4095, .tick = b.tick, .swallowing = 1};
+        check_good_state(&b, "a length that means nothing");
+        places[7].swallowing = 0;
+        if (lens[i] > 72) {
+            check_bad_state(&b, "a length that means something");
+        } else {
+            check_good_state(&b, "a length of at most 72");
+        }
+        places[7].swallowing = 0x80;
+        places[7].source = 4096;
+        check_bad_state(&b, "source 4,096, being swallowed");
+        places[7].source = 0xFFFF;
+        check_bad_state(&b, "source 65,535, being swallowed");
+    }
+    /* One source twice, being swallowed in none of the two places, in one of them, or in both. */
+    memset(&b.node.reception, 0, sizeof b.node.reception);
+    for (unsigned sort = 0; sort < 4; sort++) {
+        places[2] = (struct bujorelm_place){.held = 1, .source = 77, .tick = b.tick, .swallowing = sort & 1};
+        places[6] = (struct bujorelm_place){.held = 1, .source = 77, .tick = b.tick, .swallowing = (uint8_t)(sort & 2)};
+        check_bad_state(&b, "one source twice");
+        places[6].source = 78;
+        check_good_state(&b, "two sources");
+    }
+    board_free(&b);
+}
+
 /* ---- Bytes that say yes or no, and bytes that mean nothing ---- */
 
 /* Sets a byte of a space by its index, since the one at index 3 has no name. */
@@ -1463,89 +1548,192 @@ static void test_table_sizes(void)
     CHECK(bujorelm_spaces_size(SIZE_MAX / 16 + 2) == 272 && bujorelm_spaces_size(SIZE_MAX / 2 + 5) == 272);
 }
 
-/* Every byte but 0 says that a place is held; what means nothing may be anything, and stays as long as the place does not change. */
+/* What changes no place: an ignored frame, a datagram of one frame from a third tool, and a lone tick. Each place keeps every byte. */
+static void check_bytes_stay(struct board *b)
+{
+    const struct bujorelm_reception before = b->node.reception;
+
+    CHECK(bujorelm_node_check(&b->node).kind == BUJORELM_IGNORED);
+    CHECK(feed(b, header_of(LAST, 0x22C, 0x123), NULL, 0).kind == BUJORELM_IGNORED);
+    CHECK(is_update_complete(feed_hex(b, SINGLE, 0x777, "20A8")));
+    CHECK(is_joined(call_tick(b)));
+    CHECK(same_places(&b->node.reception, &before));
+}
+
+/* Two datagrams in places that are held or not by this byte. */
+static void check_held_byte(uint8_t held)
+{
+    struct board b;
+    struct bujorelm_place *places;
+    struct bujorelm_reception before;
+
+    board_demonstration(&b);
+    places = b.node.reception.places;
+    places[2] = (struct bujorelm_place){.held = held, .len = 2, .source = 0x123, .tick = b.tick, .unused = 0xAA};
+    places[5] = (struct bujorelm_place){.held = held, .len = 72, .source = 0xFFF, .tick = b.tick, .unused = held};
+    memcpy(b.node.pool + 144, "\x20\xA8", 2);
+    before = b.node.reception;
+    check_bytes_stay(&b);
+    if (held == 0) {
+        CHECK(is_refusal(feed_hex(&b, LAST, 0x123, ""), 0x2040));
+        CHECK(is_refusal(feed_hex(&b, MIDDLE, 0xFFF, "00"), 0x2040));
+        CHECK(same_places(&b.node.reception, &before));
+    } else {
+        /* The one is finished and its place all zero; the other is not touched, and then its source is being swallowed. */
+        CHECK(is_update_complete(feed_hex(&b, LAST, 0x123, "")));
+        before.places[2] = free_place;
+        CHECK(same_places(&b.node.reception, &before));
+        CHECK(is_refusal(feed_hex(&b, MIDDLE, 0xFFF, "00"), 0x2000));
+        before.places[5] = swallowed_place(0xFFF, b.tick);
+        CHECK(same_places(&b.node.reception, &before));
+    }
+    board_free(&b);
+}
+
+/* B7 by the same byte. */
+static void check_held_byte_refused(uint8_t held)
+{
+    struct board b;
+    struct bujorelm_place *places;
+
+    board_demonstration(&b);
+    places = b.node.reception.places;
+    places[1] = (struct bujorelm_place){.held = held, .len = 73, .source = 1};
+    places[2] = (struct bujorelm_place){.held = held, .len = 0, .source = 0x1000};
+    if (held == 0) {
+        CHECK(bujorelm_node_check(&b.node).kind == BUJORELM_IGNORED);
+    } else {
+        check_refused(&b, BUJORELM_HOUSE_B7, false, "73 bytes and source 4,096");
+        places[1].held = 0;
+        check_refused(&b, BUJORELM_HOUSE_B7, false, "source 4,096");
+        places[1].held = held;
+        places[2].held = 0;
+        check_refused(&b, BUJORELM_HOUSE_B7, false, "73 bytes");
+    }
+    board_free(&b);
+}
+
+/* Appended to, a place has canonical bytes; opened too, over whatever a free place held. */
+static void check_bytes_anew(uint8_t byte)
+{
+    struct board b;
+    struct bujorelm_place *places;
+    struct bujorelm_reception before;
+
+    board_demonstration(&b);
+    places = b.node.reception.places;
+    places[0] =
+        (struct bujorelm_place){.held = 0, .len = byte, .source = 0xFFFF, .tick = b.tick, .swallowing = byte, .unused = (uint8_t)~byte};
+    places[1] = (struct bujorelm_place){.held = 3, .len = 0, .source = 0x456, .tick = b.tick, .unused = byte};
+    before = b.node.reception;
+    CHECK(is_joined(feed_hex(&b, MIDDLE, 0x456, "2041")));
+    CHECK(follows_on(&before, &b.node.reception, b.tick) && is_place(&b.node, 1, holding_place(0x456, b.tick, 2)));
+    for (uint32_t source = 1; source <= 7; source++) {
+        before = b.node.reception;
+        CHECK(is_joined(feed_hex(&b, FIRST, source, "20")));
+        CHECK(follows_on(&before, &b.node.reception, b.tick) && !same_places(&before, &b.node.reception));
+    }
+    for (size_t i = 0; i < BUJORELM_PLACES; i++) {
+        CHECK(places[i].held == 1 && places[i].tick == b.tick && places[i].swallowing == 0 && is_canonical(&places[i]));
+    }
+    board_free(&b);
+}
+
+/* Too old, in places that are held or not by this byte: then they are all zero, and the others keep every byte, those of a free one too. */
+static void check_old_bytes(uint8_t held)
+{
+    struct board b;
+    struct bujorelm_place *places;
+    struct bujorelm_reception before;
+
+    board_demonstration(&b);
+    places = b.node.reception.places;
+    for (size_t i = 0; i < BUJORELM_PLACES; i++) {
+        places[i] = holding_place((uint16_t)(1 + i), (uint16_t)(b.tick + 1), 1);
+    }
+    places[3] = (struct bujorelm_place){.held = held, .len = 5, .source = 0x321, .tick = b.tick, .unused = 0x99};
+    places[4] = (struct bujorelm_place){.held = held, .len = 99, .source = 0x322, .tick = b.tick, .swallowing = 0x40, .unused = 0x99};
+    places[6] = (struct bujorelm_place){.held = 0, .len = held, .source = 0xFFFF, .tick = b.tick, .swallowing = held, .unused = held};
+    before = b.node.reception;
+    b.tick = (uint16_t)(b.tick + 3001);
+    CHECK(is_joined(call_tick(&b)));
+    if (held != 0) {
+        before.places[3] = free_place;
+        before.places[4] = free_place;
+    }
+    CHECK(same_places(&b.node.reception, &before));
+    board_free(&b);
+}
+
+/* A frame of 0x456, two bytes of whose datagram have come or which is being swallowed, by this byte: what comes of it and of its place. */
+static struct bujorelm_result feed_by_byte(uint8_t swallowing, uint32_t top, const char *hex, struct bujorelm_place *after)
+{
+    struct board b;
+    struct bujorelm_result answer;
+
+    board_demonstration(&b);
+    b.tick = 0x1234;
+    b.node.reception.places[4] =
+        (struct bujorelm_place){.held = 3, .len = 2, .source = 0x456, .tick = b.tick, .swallowing = swallowing, .unused = 0x77};
+    memcpy(b.node.pool + 288, "\x20\xA8", 2);
+    check_bytes_stay(&b);
+    answer = feed_hex(&b, top, 0x456, hex);
+    *after = b.node.reception.places[4];
+    b.node.reception.places[4] = free_place;
+    CHECK(is_zero(&b.node.reception, sizeof b.node.reception));
+    board_free(&b);
+    return answer;
+}
+
+/* Every byte but 0 says that the source is being swallowed. */
+static void check_swallowing_byte(uint8_t swallowing)
+{
+    const struct bujorelm_place swallowed = swallowed_place(0x456, 0x1234);
+    const struct bujorelm_place opened = holding_place(0x456, 0x1234, 1);
+    const struct bujorelm_place joined = holding_place(0x456, 0x1234, 3);
+    struct bujorelm_place after;
+
+    CHECK(is_joined(feed_by_byte(swallowing, MIDDLE, "41", &after)));
+    CHECK(memcmp(&after, swallowing == 0 ? &joined : &swallowed, sizeof after) == 0);
+    if (swallowing == 0) {
+        CHECK(is_update_complete(feed_by_byte(swallowing, LAST, "", &after)) && is_zero(&after, sizeof after));
+        CHECK(is_refusal(feed_by_byte(swallowing, MIDDLE, "", &after), 0x2040) && memcmp(&after, &swallowed, sizeof after) == 0);
+        CHECK(is_refusal(feed_by_byte(swallowing, SINGLE, "20A8", &after), 0x2040) && memcmp(&after, &swallowed, sizeof after) == 0);
+        CHECK(is_refusal(feed_by_byte(swallowing, FIRST, "20", &after), 0x2040) && memcmp(&after, &swallowed, sizeof after) == 0);
+    } else {
+        CHECK(is_joined(feed_by_byte(swallowing, LAST, "", &after)) && is_zero(&after, sizeof after));
+        CHECK(is_joined(feed_by_byte(swallowing, MIDDLE, "", &after)) && memcmp(&after, &swallowed, sizeof after) == 0);
+        CHECK(is_update_complete(feed_by_byte(swallowing, SINGLE, "20A8", &after)) && is_zero(&after, sizeof after));
+        CHECK(is_joined(feed_by_byte(swallowing, FIRST, "20", &after)) && memcmp(&after, &opened, sizeof after) == 0);
+    }
+}
+
+/* In a free place it says nothing. */
+static void check_swallowing_byte_free(uint8_t swallowing)
+{
+    struct board b;
+    struct bujorelm_reception before;
+
+    board_demonstration(&b);
+    b.node.reception.places[0] = (struct bujorelm_place){.source = 0x456, .tick = b.tick, .swallowing = swallowing, .unused = swallowing};
+    before = b.node.reception;
+    check_bytes_stay(&b);
+    CHECK(is_refusal(feed_hex(&b, MIDDLE, 0x456, "00"), 0x2040) && is_refusal(feed_hex(&b, LAST, 0x456, ""), 0x2040));
+    CHECK(is_update_complete(feed_hex(&b, SINGLE, 0x456, "20A8")) && same_places(&b.node.reception, &before));
+    board_free(&b);
+}
+
+/* Every byte but 0 says that a place is held, and that its source is being swallowed; what means nothing may be anything, and stays as long as the
+   place does not change. */
 static void test_place_bytes(void)
 {
     for (unsigned byte = 0; byte <= 0xFF; byte++) {
-        const uint8_t held = (uint8_t)byte;
-        struct board b;
-        struct bujorelm_place *places;
-        struct bujorelm_reception before;
-
-        board_demonstration(&b);
-        places = b.node.reception.places;
-        places[2] = (struct bujorelm_place){.held = held, .len = 2, .source = 0x123, .tick = b.tick, .unused = {held, 0xAA}};
-        places[5] = (struct bujorelm_place){.held = held, .len = 72, .source = 0xFFF, .tick = b.tick, .unused = {1, held}};
-        memcpy(b.node.pool + 144, "\x20\xA8", 2);
-        before = b.node.reception;
-        CHECK(bujorelm_node_check(&b.node).kind == BUJORELM_IGNORED && same_places(&b.node.reception, &before));
-        /* Ignored, and a datagram of one frame from a third tool: nothing of the places changes. */
-        CHECK(feed(&b, header_of(LAST, 0x22C, 0x123), NULL, 0).kind == BUJORELM_IGNORED);
-        CHECK(is_update_complete(feed_hex(&b, SINGLE, 0x456, "20A8")));
-        CHECK(is_joined(call_tick(&b)));
-        CHECK(same_places(&b.node.reception, &before));
-        if (held == 0) {
-            CHECK(is_refusal(feed_hex(&b, LAST, 0x123, ""), 0x2040));
-            CHECK(is_refusal(feed_hex(&b, MIDDLE, 0xFFF, "00"), 0x2040));
-            CHECK(same_places(&b.node.reception, &before));
-        } else {
-            /* The one is finished and its place all zero; the other is not touched, and then dropped. */
-            CHECK(is_update_complete(feed_hex(&b, LAST, 0x123, "")));
-            memset(&before.places[2], 0, sizeof before.places[2]);
-            CHECK(same_places(&b.node.reception, &before));
-            CHECK(is_refusal(feed_hex(&b, MIDDLE, 0xFFF, "00"), 0x2000));
-            memset(&before.places[5], 0, sizeof before.places[5]);
-            CHECK(same_places(&b.node.reception, &before));
-        }
-        /* B7 by the same byte. */
-        places[1] = (struct bujorelm_place){.held = held, .len = 73, .source = 1};
-        places[2] = (struct bujorelm_place){.held = held, .len = 0, .source = 0x1000};
-        if (held == 0) {
-            CHECK(bujorelm_node_check(&b.node).kind == BUJORELM_IGNORED);
-        } else {
-            check_refused(&b, BUJORELM_HOUSE_B7, false, "73 bytes and source 4,096");
-            places[1].held = 0;
-            check_refused(&b, BUJORELM_HOUSE_B7, false, "source 4,096");
-            places[1].held = held;
-            places[2].held = 0;
-            check_refused(&b, BUJORELM_HOUSE_B7, false, "73 bytes");
-        }
-        board_free(&b);
-
-        /* Appended to, the place has canonical bytes; opened too, over whatever a free place held. */
-        board_demonstration(&b);
-        places = b.node.reception.places;
-        places[0] = (struct bujorelm_place){.held = 0, .len = held, .source = 0xFFFF, .tick = b.tick, .unused = {held, held}};
-        places[1] = (struct bujorelm_place){.held = 3, .len = 0, .source = 0x456, .tick = b.tick, .unused = {held, 0}};
-        before = b.node.reception;
-        CHECK(is_joined(feed_hex(&b, MIDDLE, 0x456, "2041")));
-        CHECK(follows_on(&before, &b.node.reception, b.tick));
-        CHECK(places[1].held == 1 && places[1].len == 2 && places[1].source == 0x456 && is_canonical(&places[1]));
-        for (uint32_t source = 1; source <= 7; source++) {
-            before = b.node.reception;
-            CHECK(is_joined(feed_hex(&b, FIRST, source, "20")));
-            CHECK(follows_on(&before, &b.node.reception, b.tick) && !same_places(&before, &b.node.reception));
-        }
-        for (size_t i = 0; i < BUJORELM_PLACES; i++) {
-            CHECK(places[i].held == 1 && places[i].tick == b.tick && is_canonical(&places[i]));
-        }
-
-        /* Too old, by the same byte: then the place is all zero, and the others keep every byte, that of a free one too. */
-        places[3] = (struct bujorelm_place){.held = held, .len = 5, .source = 0x321, .tick = b.tick, .unused = {held, 0x99}};
-        places[6] = (struct bujorelm_place){.held = 0, .len = held, .source = 0xFFFF, .tick = b.tick, .unused = {held, held}};
-        before = b.node.reception;
-        for (size_t i = 0; i < BUJORELM_PLACES; i++) {
-            if (i != 3 && i != 6) {
-                before.places[i].tick = places[i].tick = (uint16_t)(b.tick + 1);
-            }
-        }
-        b.tick = (uint16_t)(b.tick + 3001);
-        CHECK(is_joined(call_tick(&b)));
-        if (held != 0) {
-            memset(&before.places[3], 0, sizeof before.places[3]);
-        }
-        CHECK(same_places(&b.node.reception, &before));
-        board_free(&b);
+        check_held_byte((uint8_t)byte);
+        check_held_byte_refused((uint8_t)byte);
+        check_bytes_anew((uint8_t)byte);
+        check_old_bytes((uint8_t)byte);
+        check_swallowing_byte((uint8_t)byte);
+        check_swallowing_byte_free((uint8_t)byte);
     }
 }
 
@@ -1563,27 +1751,31 @@ static void test_transport_refusals(void)
     CHECK(is_refusal(feed_hex(&b, MIDDLE, 0x123, ""), 0x2040));
     CHECK(nothing_unfinished(&b.node));
 
-    /* A First over an unfinished one drops it, and so does a Single. The frames behind are strays. */
+    /* A First over an unfinished one breaks it, and so does a Single. What is left of it is swallowed, and what comes behind its Last is
+       stray again. */
     CHECK(is_joined(feed_hex(&b, FIRST, 0x123, "200100000000")));
     CHECK(is_refusal(feed_hex(&b, FIRST, 0x123, "200100000000"), 0x2040));
+    CHECK(!nothing_unfinished(&b.node));
+    CHECK(is_joined(feed_hex(&b, LAST, 0x123, "55")));
     CHECK(nothing_unfinished(&b.node));
     CHECK(is_refusal(feed_hex(&b, LAST, 0x123, "55"), 0x2040));
     CHECK(is_joined(feed_hex(&b, FIRST, 0x123, "")));
     CHECK(!nothing_unfinished(&b.node));
     CHECK(is_refusal(feed_hex(&b, SINGLE, 0x123, "20A8"), 0x2040));
-    CHECK(nothing_unfinished(&b.node));
+    CHECK(!nothing_unfinished(&b.node));
     CHECK(is_update_complete(feed_hex(&b, SINGLE, 0x123, "20A8")));
+    CHECK(nothing_unfinished(&b.node));
 
-    /* An empty Middle drops; an empty Last does not. */
+    /* An empty Middle breaks it; an empty Last does not. */
     CHECK(is_joined(feed_hex(&b, FIRST, 0x123, "20A8")));
     CHECK(is_refusal(feed_hex(&b, MIDDLE, 0x123, ""), 0x2040));
-    CHECK(is_refusal(feed_hex(&b, LAST, 0x123, ""), 0x2040));
+    CHECK(is_joined(feed_hex(&b, LAST, 0x123, "")));
     CHECK(is_joined(feed_hex(&b, FIRST, 0x123, "20A8")));
     CHECK(is_update_complete(feed_hex(&b, LAST, 0x123, "")));
     CHECK(is_joined(feed_hex(&b, FIRST, 0x123, "")));
     CHECK(is_answer(feed_hex(&b, LAST, 0x123, ""), BUJORELM_REJECTED, 0, 0, 0x1080, 0));
 
-    /* 72 bytes may be joined and no more; an empty Middle is tested before the total. */
+    /* 72 bytes may be joined and no more; an empty Middle is tested before the total. Of these only a Last frees the place. */
     for (int middle = 0; middle < 3; middle++) {
         CHECK(is_joined(feed_hex(&b, FIRST, 0x123, "2040000000000000")));
         for (int i = 0; i < 8; i++) {
@@ -1600,10 +1792,11 @@ static void test_transport_refusals(void)
             CHECK(is_refusal(feed_hex(&b, MIDDLE, 0x123, ""), 0x2040));
             break;
         }
-        CHECK(nothing_unfinished(&b.node));
+        CHECK(places_held(&b.node) == (middle == 0 ? 0 : 1));
     }
+    CHECK(is_joined(feed_hex(&b, LAST, 0x123, "00")) && nothing_unfinished(&b.node));
 
-    /* Eight sources, and a ninth; a Single needs no place; freed room is used again. */
+    /* Eight sources, and a ninth; a Single needs no place; freed room is used again, and that of a source that is being swallowed is not free. */
     for (uint32_t source = 1; source <= 8; source++) {
         CHECK(is_joined(feed_hex(&b, FIRST, source, "20")));
     }
@@ -1611,6 +1804,8 @@ static void test_transport_refusals(void)
     CHECK(is_refusal(feed_hex(&b, LAST, 9, "A8"), 0x2040));
     CHECK(is_update_complete(feed_hex(&b, SINGLE, 9, "20A8")));
     CHECK(is_refusal(feed_hex(&b, FIRST, 5, "20"), 0x2040));
+    CHECK(is_refusal(feed_hex(&b, FIRST, 9, "20"), 0x2020));
+    CHECK(is_joined(feed_hex(&b, LAST, 5, "A8")));
     CHECK(is_joined(feed_hex(&b, FIRST, 9, "20")));
     CHECK(is_refusal(feed_hex(&b, FIRST, 5, "20"), 0x2020));
     for (uint32_t source = 9; source >= 1; source--) {
@@ -1801,7 +1996,8 @@ static void board_begun(struct board *b, uint16_t age)
     b->tick = (uint16_t)(b->tick + age);
 }
 
-/* What becomes of the next frame of a source whose datagram is 3,000 ticks old, and where it is dropped before the frame is looked at. */
+/* What becomes of the next frame of a source whose datagram is 3,000 ticks old, and where it is dropped before the frame is looked at. A frame that
+   is refused does not renew the tick of the place that is kept. */
 static void test_next_frame(void)
 {
     for (int late = 0; late < 2; late++) {
@@ -1810,13 +2006,12 @@ static void test_next_frame(void)
 
         board_begun(&b, age);
         CHECK(late ? is_joined(feed_hex(&b, FIRST, 0x123, "2041")) : is_refusal(feed_hex(&b, FIRST, 0x123, "2041"), 0x2040));
-        CHECK(late ? places_held(&b.node) == 1 && b.node.reception.places[0].len == 2 : nothing_unfinished(&b.node));
-        CHECK(!late || (b.node.reception.places[0].tick == b.tick && is_canonical(&b.node.reception.places[0])));
+        CHECK(is_place(&b.node, 0, late ? holding_place(0x123, b.tick, 2) : swallowed_place(0x123, (uint16_t)(b.tick - age))));
         board_free(&b);
 
         board_begun(&b, age);
         CHECK(late ? is_update_complete(feed_hex(&b, SINGLE, 0x123, "20A8")) : is_refusal(feed_hex(&b, SINGLE, 0x123, "20A8"), 0x2040));
-        CHECK(nothing_unfinished(&b.node));
+        CHECK(is_place(&b.node, 0, late ? free_place : swallowed_place(0x123, (uint16_t)(b.tick - age))));
         board_free(&b);
 
         board_begun(&b, age);
@@ -1833,7 +2028,8 @@ static void test_next_frame(void)
         board_free(&b);
 
         board_begun(&b, age);
-        CHECK(is_refusal(feed_hex(&b, MIDDLE, 0x123, ""), 0x2040) && nothing_unfinished(&b.node));
+        CHECK(is_refusal(feed_hex(&b, MIDDLE, 0x123, ""), 0x2040));
+        CHECK(is_place(&b.node, 0, late ? free_place : swallowed_place(0x123, (uint16_t)(b.tick - age))));
         board_free(&b);
     }
 }
@@ -1932,7 +2128,8 @@ static void test_abandoned(void)
     board_free(&b);
 }
 
-/* A good board with eight datagrams that are too old, and with a mistake that is made on it. */
+/* A good board with eight places that are too old, of three datagrams and of five sources that are being swallowed, and with a mistake that is made
+   on it. */
 static void check_drops_nothing(uint8_t house, uint8_t position, const char *word)
 {
     struct draft d = draft_of_sixteen();
@@ -1944,8 +2141,12 @@ static void check_drops_nothing(uint8_t house, uint8_t position, const char *wor
     d.alias = house == 14 ? 0 : d.alias;
     board_new(&b, &d, house == 13 ? 65537 : 16, house == 12 ? 65537 : 48, house == 6 ? 71 : 72);
     for (size_t i = 0; i < BUJORELM_PLACES; i++) {
-        b.node.reception.places[i] = (struct bujorelm_place){
-            .held = (uint8_t)(1 + i), .len = 9, .source = (uint16_t)(0x120 + i), .tick = (uint16_t)(b.tick + 1 + 8000 * i), .unused = {7, 8}};
+        b.node.reception.places[i] = (struct bujorelm_place){.held = (uint8_t)(1 + i),
+                                                             .len = 9,
+                                                             .source = (uint16_t)(0x120 + i),
+                                                             .tick = (uint16_t)(b.tick + 1 + 8000 * i),
+                                                             .swallowing = (uint8_t)(i < 3 ? 0 : i),
+                                                             .unused = 8};
     }
     b.node.description.count = house == 11 ? 17 : d.count;
     check_refused_at(&b, house, position, true, word);
@@ -1971,9 +2172,12 @@ static void test_refused_calls_drop_nothing(void)
 static void test_ticks_of_bad_states(unsigned step)
 {
     static const struct bujorelm_place bad[][2] = {
-        {{.held = 1, .len = 73, .source = 1, .tick = 0x8000, .unused = {1, 2}}, {.held = 0, .len = 80, .source = 5}},
-        {{.held = 2, .len = 72, .source = 4096, .tick = 0x8000, .unused = {3, 4}}, {.held = 1, .len = 72, .source = 4095}},
-        {{.held = 3, .len = 0, .source = 77, .tick = 0x8000, .unused = {5, 6}}, {.held = 9, .len = 1, .source = 77, .tick = 0x7000}},
+        {{.held = 1, .len = 73, .source = 1, .tick = 0x8000, .unused = 2}, {.held = 0, .len = 80, .source = 5, .swallowing = 6}},
+        {{.held = 2, .len = 72, .source = 4096, .tick = 0x8000, .unused = 4}, {.held = 1, .len = 72, .source = 4095}},
+        {{.held = 3, .len = 0, .source = 77, .tick = 0x8000, .unused = 6}, {.held = 9, .len = 1, .source = 77, .tick = 0x7000}},
+        {{.held = 4, .len = 0, .source = 4096, .tick = 0x8000, .swallowing = 7, .unused = 8}, {.held = 1, .len = 90, .swallowing = 1}},
+        {{.held = 5, .len = 99, .source = 77, .tick = 0x8000, .swallowing = 9}, {.held = 1, .len = 1, .source = 77, .tick = 0x7000}},
+        {{.held = 6, .source = 77, .tick = 0x8000, .swallowing = 1}, {.held = 1, .source = 77, .tick = 0x7000, .swallowing = 1}},
     };
 
     for (size_t i = 0; i < sizeof bad / sizeof bad[0]; i++) {
@@ -2010,7 +2214,7 @@ static void test_ticks_of_free_places(unsigned step)
         CHECK(is_joined(bujorelm_handle_tick(&before, (uint16_t)tick)) && is_zero(&before, sizeof before));
         for (size_t i = 0; i < BUJORELM_PLACES; i++) {
             before.places[i] = (struct bujorelm_place){
-                .len = (uint8_t)tick, .source = (uint16_t)~tick, .tick = (uint16_t)(tick + 3000 * i), .unused = {(uint8_t)i, 0xFF}};
+                .len = (uint8_t)tick, .source = (uint16_t)~tick, .tick = (uint16_t)(tick + 3000 * i), .swallowing = (uint8_t)i, .unused = 0xFF};
         }
         b.node.reception = before;
         CHECK(is_joined(call_tick(&b)) && same_places(&b.node.reception, &before));
@@ -2044,9 +2248,9 @@ static void test_tick_bytes(void)
     memcpy(expected + 8, "\x01\x00\x01\x00\xFF\x12\x00\x00", 8);
     CHECK(memcmp(&b.node.reception, expected, 64) == 0);
     /* What means nothing is kept until the place changes. */
-    memcpy(b.node.reception.places[0].unused, "\xAA\x55", 2);
-    memcpy(b.node.reception.places[1].unused, "\x77\x88", 2);
-    memcpy(expected + 14, "\x77\x88", 2);
+    b.node.reception.places[0].unused = 0x55;
+    b.node.reception.places[1].unused = 0x88;
+    expected[15] = 0x88;
     b.tick = 0x1300;
     CHECK(is_joined(feed_hex(&b, MIDDLE, 0xABC, "000000")));
     memcpy(expected, "\x01\x05\xBC\x0A\x00\x13\x00\x00", 8);
@@ -2059,6 +2263,602 @@ static void test_tick_bytes(void)
     b.tick = 0x1300 + 3000;
     CHECK(feed_hex(&b, LAST, 0xABC, "01").kind == BUJORELM_REJECTED);
     CHECK(is_zero(&b.node.reception, sizeof b.node.reception));
+    board_free(&b);
+}
+
+/* ---- What is swallowed behind a broken datagram ---- */
+
+/* The place of 0x123 on the boards of these tests. */
+#define OWN 2u
+
+/* A board to which 0x123 has sent so many bytes of a datagram, ten ticks ago at last. Beside its place others are held, for a datagram and for a
+   source that is being swallowed, and free, all with bytes that no call has given them. */
+static void board_unfinished(struct board *b, size_t len)
+{
+    struct bujorelm_place *const places = b->node.reception.places;
+
+    board_demonstration(b);
+    random_bytes(b->node.pool, sizeof b->node.pool);
+    places[0] = (struct bujorelm_place){.held = 9, .len = 72, .source = 1, .tick = b->tick, .unused = 0xAA};
+    places[1] = (struct bujorelm_place){.held = 1, .len = 255, .source = 2, .tick = b->tick, .swallowing = 0xC3, .unused = 0x3C};
+    places[OWN] = holding_place(0x123, (uint16_t)(b->tick - 10), len);
+    places[3] = (struct bujorelm_place){.len = 99, .source = 0x123, .tick = 7, .swallowing = 5, .unused = 6};
+    places[7] = (struct bujorelm_place){.held = 0xFF, .len = 0, .source = 4095, .tick = b->tick, .swallowing = 0xFF, .unused = 0xFF};
+}
+
+/* A frame of 0x123. Afterwards its place has just these bytes, no other place has changed in any byte, and of the pool nothing but what a First has
+   opened the place with. */
+static struct bujorelm_result step(struct board *b, uint32_t top, size_t len, struct bujorelm_place after)
+{
+    static const uint8_t data[8] = {0x20, 0xA8, 0x5A, 0xA5, 1, 2, 3, 4};
+    struct bujorelm_node expected = b->node;
+    const struct bujorelm_result answer = feed(b, header_of(top, 0x22B, 0x123), data, len);
+
+    expected.reception.places[OWN] = after;
+    if (top == FIRST && after.held != 0 && after.swallowing == 0) {
+        memcpy(expected.pool + 72 * OWN, data, len);
+    }
+    CHECK(same_node(&b->node, &expected));
+    CHECK(is_untouched(b->reply.bytes, 0, b->reply.len) && is_zero(b->memory.bytes, b->memory.len));
+    return answer;
+}
+
+/* Frames of a source that has no place: each is refused, and nothing is kept for it. */
+static void check_strays(struct board *b)
+{
+    for (size_t len = 0; len <= 8; len++) {
+        CHECK(is_refusal(step(b, MIDDLE, len, free_place), 0x2040));
+        CHECK(is_refusal(step(b, LAST, len, free_place), 0x2040));
+    }
+}
+
+/* The refused frame leaves its source to be swallowed, with the tick of the last accepted one. */
+static void check_breach(size_t held, uint32_t top, size_t len, uint16_t code)
+{
+    struct board b;
+
+    board_unfinished(&b, held);
+    CHECK(is_refusal(step(&b, top, len, swallowed_place(0x123, (uint16_t)(b.tick - 10))), code));
+    CHECK(is_joined(step(&b, MIDDLE, len, swallowed_place(0x123, b.tick))));
+    CHECK(is_joined(step(&b, LAST, len, free_place)));
+    CHECK(is_refusal(step(&b, LAST, len, free_place), 0x2040));
+    board_free(&b);
+}
+
+/* A Last that is refused frees the place. */
+static void check_refused_last(size_t held, size_t len)
+{
+    struct board b;
+
+    board_unfinished(&b, held);
+    CHECK(is_refusal(step(&b, LAST, len, free_place), 0x2000));
+    check_strays(&b);
+    board_free(&b);
+}
+
+/* Every refusal of a source with a datagram unfinished, whatever has come of it: a Single, a First, an empty Middle, a Middle past 72 bytes; and a
+   Last past them. */
+static void test_breaches(void)
+{
+    for (size_t held = 0; held <= 72; held++) {
+        check_breach(held, MIDDLE, 0, 0x2040);
+        for (size_t len = 0; len <= 8; len++) {
+            check_breach(held, SINGLE, len, 0x2040);
+            check_breach(held, FIRST, len, 0x2040);
+            if (held + len > 72) {
+                check_breach(held, MIDDLE, len, 0x2000);
+                check_refused_last(held, len);
+            }
+        }
+    }
+}
+
+/* A board on which 0x123 is being swallowed. */
+static void board_swallowing(struct board *b)
+{
+    board_unfinished(b, 8);
+    CHECK(is_refusal(step(b, FIRST, 8, swallowed_place(0x123, (uint16_t)(b->tick - 10))), 0x2040));
+}
+
+/* Middles of every length, empty ones too and far more than 72 bytes in all, renew the tick and do nothing else. A Last of any length frees the
+   place, and what comes behind it is stray. */
+static void test_swallowed_frames(void)
+{
+    for (size_t last = 0; last <= 8; last++) {
+        struct board b;
+
+        board_swallowing(&b);
+        for (size_t i = 0; i < 90; i++) {
+            CHECK(is_joined(step(&b, MIDDLE, i % 9, swallowed_place(0x123, b.tick))));
+            /* Two at each tick, so that every second one changes nothing at all. */
+            b.tick = (uint16_t)(b.tick + i % 2);
+        }
+        CHECK(is_joined(step(&b, LAST, last, free_place)));
+        check_strays(&b);
+        board_free(&b);
+    }
+}
+
+/* A Single of any length is a datagram and frees the place, and a First of any length opens one in it: then the source is not being swallowed. */
+static void test_swallowing_ends(void)
+{
+    for (size_t len = 0; len <= 8; len++) {
+        struct bujorelm_result answer;
+        struct board b;
+
+        board_swallowing(&b);
+        answer = step(&b, SINGLE, len, free_place);
+        CHECK(len == 2 ? is_update_complete(answer) : is_answer(answer, BUJORELM_REJECTED, 0, 0, 0x1080, 0));
+        check_strays(&b);
+        board_free(&b);
+
+        board_swallowing(&b);
+        CHECK(is_joined(step(&b, FIRST, len, holding_place(0x123, b.tick, len))));
+        CHECK(is_refusal(step(&b, FIRST, len, swallowed_place(0x123, b.tick)), 0x2040));
+        CHECK(is_joined(step(&b, FIRST, len, holding_place(0x123, b.tick, len))));
+        CHECK(is_refusal(step(&b, MIDDLE, 0, swallowed_place(0x123, b.tick)), 0x2040));
+        CHECK(is_joined(step(&b, FIRST, len, holding_place(0x123, b.tick, len))));
+        answer = step(&b, LAST, 0, free_place);
+        CHECK(len == 2 ? is_update_complete(answer) : is_answer(answer, BUJORELM_REJECTED, 0, 0, 0x1080, 0));
+        check_strays(&b);
+        board_free(&b);
+    }
+}
+
+/* The sources 1 to 8, each in its place, of which the first so many are being swallowed. */
+static void board_full(struct board *b, size_t swallowed)
+{
+    board_demonstration(b);
+    random_bytes(b->node.pool, sizeof b->node.pool);
+    for (uint32_t source = 1; source <= 8; source++) {
+        CHECK(is_joined(feed_hex(b, FIRST, source, "20")));
+    }
+    for (uint32_t source = 1; source <= swallowed; source++) {
+        CHECK(is_refusal(feed_hex(b, MIDDLE, source, ""), 0x2040));
+    }
+    for (size_t i = 0; i < BUJORELM_PLACES; i++) {
+        const uint16_t source = (uint16_t)(1 + i);
+
+        CHECK(is_place(&b->node, i, i < swallowed ? swallowed_place(source, b->tick) : holding_place(source, b->tick, 1)));
+    }
+}
+
+/* A ninth source gets no place while all eight are taken, however many of them by sources that are being swallowed: one of these frees its place by
+   a Last or a Single, and for its own First there is always room. */
+static void test_swallowed_places_are_taken(void)
+{
+    for (size_t swallowed = 0; swallowed <= 8; swallowed++) {
+        struct bujorelm_node before;
+        struct board b;
+
+        board_full(&b, swallowed);
+        before = b.node;
+        CHECK(is_refusal(feed_hex(&b, FIRST, 9, "20"), 0x2020) && same_node(&b.node, &before));
+        CHECK(is_refusal(feed_hex(&b, MIDDLE, 9, "A8"), 0x2040) && same_node(&b.node, &before));
+        CHECK(is_refusal(feed_hex(&b, LAST, 9, "A8"), 0x2040) && same_node(&b.node, &before));
+        CHECK(is_update_complete(feed_hex(&b, SINGLE, 9, "20A8")) && same_node(&b.node, &before));
+        for (uint32_t source = 1; source <= swallowed; source++) {
+            const bool by_last = source % 2 == 1;
+
+            CHECK(by_last ? is_joined(feed_hex(&b, LAST, source, "A8")) : is_update_complete(feed_hex(&b, SINGLE, source, "20A8")));
+            CHECK(is_place(&b.node, source - 1, free_place) && places_held(&b.node) == 7);
+            CHECK(is_joined(feed_hex(&b, FIRST, 0x100 + source, "20")));
+            CHECK(is_place(&b.node, source - 1, holding_place((uint16_t)(0x100 + source), b.tick, 1)));
+            CHECK(is_refusal(feed_hex(&b, FIRST, source, "20"), 0x2020));
+        }
+        board_free(&b);
+    }
+}
+
+/* With all eight places taken: the First opens a datagram in the very place that its source has, and its bytes alone go to the pool. */
+static void test_reopening(void)
+{
+    for (size_t swallowed = 1; swallowed <= 8; swallowed++) {
+        for (uint32_t source = 1; source <= swallowed; source++) {
+            const size_t len = (swallowed + source) % 9;
+            uint8_t data[8];
+            struct bujorelm_node expected;
+            struct board b;
+
+            board_full(&b, swallowed);
+            b.tick++;
+            random_bytes(data, sizeof data);
+            expected = b.node;
+            expected.reception.places[source - 1] = holding_place((uint16_t)source, b.tick, len);
+            memcpy(expected.pool + 72 * (source - 1), data, len);
+            CHECK(is_joined(feed(&b, header_of(FIRST, 0x22B, source), data, len)) && same_node(&b.node, &expected));
+            CHECK(is_refusal(feed_hex(&b, FIRST, 9, "20"), 0x2020) && same_node(&b.node, &expected));
+            board_free(&b);
+        }
+    }
+}
+
+/* A place that says already what the frame makes of it keeps every byte: a Middle that is swallowed at the tick that the place has, where no length
+   stands in it. At another tick, or over a length, it gets all bytes anew. */
+static void check_unchanged_place(uint8_t byte)
+{
+    const uint8_t other = byte == 0xFF ? 9 : (uint8_t)~byte;
+    const struct bujorelm_place odd = {.held = byte, .source = 0x123, .tick = 0x1234, .swallowing = other, .unused = 0x55};
+    struct bujorelm_place *own;
+    struct board b;
+
+    board_swallowing(&b);
+    for (size_t i = 0; i < BUJORELM_PLACES; i++) {
+        b.node.reception.places[i].tick = 0x1234;
+    }
+    b.tick = 0x1234;
+    own = &b.node.reception.places[OWN];
+    *own = odd;
+    for (size_t len = 0; len <= 8; len++) {
+        CHECK(is_joined(step(&b, MIDDLE, len, odd)));
+    }
+    CHECK(is_joined(step(&b, LAST, 1, free_place)));
+    *own = odd;
+    own->len = byte;
+    CHECK(is_joined(step(&b, MIDDLE, byte % 9, swallowed_place(0x123, 0x1234))));
+    *own = odd;
+    b.tick = (uint16_t)(0x1234 + byte);
+    CHECK(is_joined(step(&b, MIDDLE, byte % 9, swallowed_place(0x123, b.tick))));
+    board_free(&b);
+}
+
+static void test_unchanged_place(void)
+{
+    /* Written out, with what it has a tick later. */
+    static const uint8_t stays[8] = {7, 0, 0x23, 0x01, 0x34, 0x12, 9, 0xEE};
+    static const uint8_t anew[8] = {1, 0, 0x23, 0x01, 0x35, 0x12, 1, 0};
+    struct board b;
+
+    for (unsigned byte = 1; byte <= 0xFF; byte++) {
+        check_unchanged_place((uint8_t)byte);
+    }
+    board_demonstration(&b);
+    b.tick = 0x1234;
+    memcpy(&b.node.reception.places[5], stays, 8);
+    CHECK(is_joined(feed_hex(&b, MIDDLE, 0x123, "11")) && memcmp(&b.node.reception.places[5], stays, 8) == 0);
+    b.tick = 0x1235;
+    CHECK(is_joined(feed_hex(&b, MIDDLE, 0x123, "11")) && memcmp(&b.node.reception.places[5], anew, 8) == 0);
+    board_free(&b);
+}
+
+/* Frames that are ignored change nothing of a source that is being swallowed, and do not end it. */
+static void test_ignored_while_swallowing(void)
+{
+    static const uint8_t data[20] = {0x20, 0xA8};
+    struct bujorelm_node before;
+    struct board b;
+
+    board_swallowing(&b);
+    b.node.reception.places[OWN].held = 7;
+    b.node.reception.places[OWN].unused = 0x55;
+    before = b.node;
+    for (uint32_t top = 0; top < 0x100; top++) {
+        const bool is_datagram = top >= SINGLE && top <= LAST;
+        /* To the board, or where that would not be ignored to another; and with too many bytes. */
+        const uint32_t destination = is_datagram ? 0x22A : 0x22B;
+
+        CHECK(is_answer(feed(&b, header_of(top, destination, 0x123), data, top % 9), BUJORELM_IGNORED, 0, 0, 0, 0));
+        CHECK(is_answer(feed(&b, header_of(top, 0x22B, 0x123), data, 9 + top % 12), BUJORELM_IGNORED, 0, 0, 0, 0));
+        CHECK(is_answer(feed(&b, header_of(top, 0x22B, 0x22B), data, 2), BUJORELM_IGNORED, 0, 0, 0, 0));
+        CHECK(same_node(&b.node, &before));
+    }
+    CHECK(feed(&b, 0x19A28123u, (const uint8_t *)"\x02\x2B\x00", 3).kind == BUJORELM_IGNORED && same_node(&b.node, &before));
+    CHECK(feed(&b, 0x19A48123u, (const uint8_t *)"\x02\x2B\x20\x40", 4).kind == BUJORELM_IGNORED && same_node(&b.node, &before));
+    CHECK(is_joined(step(&b, LAST, 8, free_place)));
+    board_free(&b);
+}
+
+/* The bytes of the places, all written out, from the First on to the Last behind a broken datagram, and behind one that is opened in the same
+   place. */
+static void test_swallowing_bytes(void)
+{
+    uint8_t expected[64] = {0};
+    struct board b;
+
+    board_demonstration(&b);
+    b.tick = 0x1234;
+    CHECK(is_joined(feed_hex(&b, FIRST, 0xABC, "2041")));
+    memcpy(expected, "\x01\x02\xBC\x0A\x34\x12\x00\x00", 8);
+    CHECK(memcmp(&b.node.reception, expected, 64) == 0);
+    b.tick = 0x1256;
+    CHECK(is_refusal(feed_hex(&b, SINGLE, 0xABC, "20A8"), 0x2040));
+    memcpy(expected, "\x01\x00\xBC\x0A\x34\x12\x01\x00", 8);
+    CHECK(memcmp(&b.node.reception, expected, 64) == 0);
+    b.tick = 0x1278;
+    CHECK(is_joined(feed_hex(&b, MIDDLE, 0xABC, "0102030405060708")));
+    memcpy(expected, "\x01\x00\xBC\x0A\x78\x12\x01\x00", 8);
+    CHECK(memcmp(&b.node.reception, expected, 64) == 0);
+    /* Another tool's frame changes its own place alone. */
+    CHECK(is_joined(feed_hex(&b, FIRST, 0x001, "20")));
+    memcpy(expected + 8, "\x01\x01\x01\x00\x78\x12\x00\x00", 8);
+    b.tick = 0x129A;
+    CHECK(is_joined(feed_hex(&b, FIRST, 0xABC, "204100")));
+    memcpy(expected, "\x01\x03\xBC\x0A\x9A\x12\x00\x00", 8);
+    CHECK(memcmp(&b.node.reception, expected, 64) == 0);
+    CHECK(is_refusal(feed_hex(&b, MIDDLE, 0xABC, ""), 0x2040));
+    memcpy(expected, "\x01\x00\xBC\x0A\x9A\x12\x01\x00", 8);
+    CHECK(memcmp(&b.node.reception, expected, 64) == 0);
+    CHECK(is_joined(feed_hex(&b, LAST, 0xABC, "")));
+    memset(expected, 0, 8);
+    CHECK(memcmp(&b.node.reception, expected, 64) == 0);
+    board_free(&b);
+}
+
+/* ---- The age of what is swallowed ---- */
+
+/* When the frames came that leave 0x123 to be swallowed: a First, a First that is refused, and a Middle that is swallowed, or none. */
+struct broken {
+    uint16_t begun;
+    uint16_t refused;
+    bool has_middle;
+    uint16_t middle;
+};
+
+static uint16_t last_accepted(const struct broken *c)
+{
+    return c->has_middle ? c->middle : c->begun;
+}
+
+static void play_broken(struct board *b, const struct broken *c)
+{
+    memset(&b->node.reception, 0, sizeof b->node.reception);
+    b->tick = c->begun;
+    CHECK(is_joined(call_frame(b, header_of(FIRST, 0x22B, 0x123), (const uint8_t *)"\x20", 1)));
+    b->tick = c->refused;
+    CHECK(is_refusal(call_frame(b, header_of(FIRST, 0x22B, 0x123), (const uint8_t *)"\x20", 1), 0x2040));
+    CHECK(is_place(&b->node, 0, swallowed_place(0x123, c->begun)));
+    if (c->has_middle) {
+        b->tick = c->middle;
+        CHECK(is_joined(call_frame(b, header_of(MIDDLE, 0x22B, 0x123), (const uint8_t *)"\x20", 1)));
+        CHECK(is_place(&b->node, 0, swallowed_place(0x123, c->middle)));
+    }
+}
+
+/* What has become of the place so many ticks after the last accepted frame: it is as it was, or all zero. */
+static void check_swallowed_age(struct board *b, const struct broken *c, unsigned age, enum way way)
+{
+    struct bujorelm_node before;
+    char word[96];
+
+    snprintf(word, sizeof word, "First %u, refused %u, Middle %u, %u ticks later, way %d", c->begun, c->refused, c->middle, age, (int)way);
+    play_broken(b, c);
+    before = b->node;
+    b->tick = (uint16_t)((last_accepted(c) + age) % 65536);
+    bring_tick(b, way, 0x123);
+    if (age > 3000) {
+        before.reception.places[0] = free_place;
+    }
+    CHECK_CASE(same_node(&b->node, &before), word);
+}
+
+/* From the last accepted frame exactly 3,000 ticks stay and 3,001 do not, in every way in which a tick may come and across 65,535: a refused frame
+   has not renewed it, and a swallowed Middle has. */
+static void test_swallowed_ages(void)
+{
+    static const uint16_t begun[] = {0, 1, 32768, 60000, 62535, 62536, 62537, 64000, 65534, 65535};
+    static const uint16_t refused[] = {0, 1, 2999, 3000};
+    static const unsigned ages[] = {0, 1, 2999, 3000, 3001, 3002, 6000, 32768, 61999, 65535};
+    struct board b;
+
+    board_demonstration(&b);
+    for (size_t n = 0; n < WAYS * (sizeof begun / sizeof begun[0]) * (sizeof refused / sizeof refused[0]); n++) {
+        const enum way way = (enum way)(n % WAYS);
+        const uint16_t first = begun[n / WAYS % (sizeof begun / sizeof begun[0])];
+        const uint16_t later = refused[n / WAYS / (sizeof begun / sizeof begun[0])];
+        const uint16_t second = (uint16_t)((first + later) % 65536);
+        const struct broken without = {.begun = first, .refused = second};
+        /* The Middle as late as it may be. */
+        const struct broken with = {.begun = first, .refused = second, .has_middle = true, .middle = (uint16_t)((first + 3000) % 65536)};
+
+        for (size_t i = 0; i < sizeof ages / sizeof ages[0]; i++) {
+            if (ages[i] >= later) {
+                check_swallowed_age(&b, &without, ages[i], way);
+            }
+            check_swallowed_age(&b, &with, ages[i], way);
+        }
+    }
+    board_free(&b);
+}
+
+/* Every age, or each so many; and the last age that stays and the first that does not, from every tick on. */
+static void test_every_swallowed_age(unsigned step)
+{
+    const struct broken some = {.begun = 40000, .refused = 40000};
+    struct board b;
+
+    board_demonstration(&b);
+    for (unsigned age = 0; age <= 65535; age += step) {
+        check_swallowed_age(&b, &some, age, LONE_TICK);
+        check_swallowed_age(&b, &some, age, NO_DATAGRAM_FRAME);
+    }
+    for (unsigned tick = 0; tick <= 65535; tick += step) {
+        const uint16_t later = (uint16_t)((tick + 2000) % 65536);
+        const struct broken without = {.begun = (uint16_t)tick, .refused = later};
+        const struct broken with = {.begun = (uint16_t)tick, .refused = later, .has_middle = true, .middle = later};
+
+        check_swallowed_age(&b, &without, 3000, LONE_TICK);
+        check_swallowed_age(&b, &without, 3001, NO_DATAGRAM_FRAME);
+        check_swallowed_age(&b, &with, 3000, NO_DATAGRAM_FRAME);
+        check_swallowed_age(&b, &with, 3001, LONE_TICK);
+    }
+    board_free(&b);
+}
+
+/* A board on which 0x123 is being swallowed in the third place, the two before that free, since so many ticks. The frame that was refused came as
+   late as it could. */
+static void board_long_swallowing(struct board *b, uint16_t age)
+{
+    board_demonstration(b);
+    CHECK(is_joined(feed_hex(b, FIRST, 1, "20")) && is_joined(feed_hex(b, FIRST, 2, "20")) && is_joined(feed_hex(b, FIRST, 0x123, "20")));
+    CHECK(is_update_complete(feed_hex(b, LAST, 1, "A8")) && is_update_complete(feed_hex(b, LAST, 2, "A8")));
+    b->tick = (uint16_t)(b->tick + 3000);
+    CHECK(is_refusal(feed_hex(b, FIRST, 0x123, "20"), 0x2040));
+    CHECK(is_place(&b->node, OWN, swallowed_place(0x123, (uint16_t)(b->tick - 3000))) && places_held(&b->node) == 1);
+    b->tick = (uint16_t)(b->tick - 3000 + age);
+}
+
+/* What becomes of the next frame of a source whose last accepted frame is 3,000 ticks back, and where its place is freed before the frame is looked
+   at: then a Middle or Last is stray, and a First opens the first place that is free. */
+static void test_next_swallowed_frame(void)
+{
+    for (int late = 0; late < 2; late++) {
+        const uint16_t age = late ? 3001 : 3000;
+        struct board b;
+
+        board_long_swallowing(&b, age);
+        CHECK(late ? is_refusal(feed_hex(&b, MIDDLE, 0x123, "A8"), 0x2040) : is_joined(feed_hex(&b, MIDDLE, 0x123, "A8")));
+        CHECK(is_place(&b.node, OWN, late ? free_place : swallowed_place(0x123, b.tick)) && places_held(&b.node) == (late ? 0 : 1));
+        board_free(&b);
+
+        board_long_swallowing(&b, age);
+        CHECK(late ? is_refusal(feed_hex(&b, MIDDLE, 0x123, ""), 0x2040) : is_joined(feed_hex(&b, MIDDLE, 0x123, "")));
+        CHECK(is_place(&b.node, OWN, late ? free_place : swallowed_place(0x123, b.tick)) && places_held(&b.node) == (late ? 0 : 1));
+        board_free(&b);
+
+        board_long_swallowing(&b, age);
+        CHECK(late ? is_refusal(feed_hex(&b, LAST, 0x123, "A8"), 0x2040) : is_joined(feed_hex(&b, LAST, 0x123, "A8")));
+        CHECK(is_zero(&b.node.reception, sizeof b.node.reception));
+        board_free(&b);
+
+        board_long_swallowing(&b, age);
+        CHECK(is_update_complete(feed_hex(&b, SINGLE, 0x123, "20A8")) && is_zero(&b.node.reception, sizeof b.node.reception));
+        board_free(&b);
+
+        board_long_swallowing(&b, age);
+        CHECK(is_joined(feed_hex(&b, FIRST, 0x123, "20")) && places_held(&b.node) == 1);
+        CHECK(is_place(&b.node, late ? 0 : OWN, holding_place(0x123, b.tick, 1)));
+        CHECK(is_update_complete(feed_hex(&b, LAST, 0x123, "A8")) && nothing_unfinished(&b.node));
+        board_free(&b);
+    }
+}
+
+/* Each Middle that is swallowed renews the tick, 3,000 ticks behind the one before it, and round 65,536 more than once. */
+static void test_swallowed_renewal(void)
+{
+    struct board b;
+
+    board_long_swallowing(&b, 3000);
+    for (size_t i = 0; i < 60; i++) {
+        CHECK(is_joined(feed_hex(&b, MIDDLE, 0x123, i % 2 == 0 ? "" : "0102030405060708")));
+        CHECK(is_place(&b.node, OWN, swallowed_place(0x123, b.tick)) && places_held(&b.node) == 1);
+        b.tick = (uint16_t)(b.tick + 3000);
+    }
+    CHECK(is_joined(call_tick(&b)) && places_held(&b.node) == 1);
+    b.tick++;
+    CHECK(is_refusal(feed_hex(&b, MIDDLE, 0x123, ""), 0x2040) && nothing_unfinished(&b.node));
+    board_free(&b);
+}
+
+/* Eight tools that are being swallowed and leave: a ninth is locked out until the first of them is too old, and no longer. */
+static void test_abandoned_while_swallowing(void)
+{
+    for (uint16_t age = 3000; age <= 3001; age++) {
+        struct board b;
+
+        board_full(&b, 8);
+        b.tick = (uint16_t)(b.tick + age);
+        CHECK(age == 3000 ? is_refusal(feed_hex(&b, FIRST, 9, "20"), 0x2020) : is_joined(feed_hex(&b, FIRST, 9, "20")));
+        CHECK(places_held(&b.node) == (age == 3000 ? 8 : 1));
+        board_free(&b);
+
+        board_full(&b, 8);
+        b.tick = (uint16_t)(b.tick + age);
+        CHECK(is_joined(call_tick(&b)) && places_held(&b.node) == (age == 3000 ? 8 : 0));
+        board_free(&b);
+    }
+}
+
+/* ---- One rejection for one broken datagram ---- */
+
+/* How many of these frames are refused. What is answered to the last of them is stored. */
+static size_t refusals_of(struct board *b, const struct bujorelm_frame *frames, size_t count, struct bujorelm_result *last)
+{
+    size_t refusals = 0;
+
+    for (size_t i = 0; i < count; i++) {
+        *last = feed(b, frames[i].header, frames[i].bytes, frames[i].len);
+        CHECK(last->kind == BUJORELM_TRANSPORT_REFUSAL || is_joined(*last) || i + 1 == count);
+        refusals += last->kind == BUJORELM_TRANSPORT_REFUSAL;
+    }
+    return refusals;
+}
+
+/* A tool whose Last is lost sends its write once more from the beginning: that is rejected once, at the First, and the rest of it swallowed. Then it
+   is sent for the third time, and done. */
+static void test_lost_last(void)
+{
+    struct bujorelm_frame frames[BUJORELM_SENT_MAX];
+    uint8_t datagram[BUJORELM_DATAGRAM_MAX];
+
+    for (size_t len = 2; len <= 48; len++) {
+        const size_t sent = make_write(datagram, false, 0xFE, 0, len);
+        const size_t count = bujorelm_cut(datagram, sent, 0x123, 0x22B, frames);
+        struct bujorelm_result last;
+        struct board b;
+
+        board_demonstration(&b);
+        CHECK(count > 1 && refusals_of(&b, frames, count - 1, &last) == 0);
+        CHECK(refusals_of(&b, frames, 1, &last) == 1 && is_refusal(last, 0x2040));
+        CHECK(refusals_of(&b, frames + 1, count - 1, &last) == 0 && is_joined(last) && nothing_unfinished(&b.node));
+        CHECK(is_zero(b.memory.bytes, b.memory.len));
+        CHECK(refusals_of(&b, frames, count, &last) == 0 && is_written(last, 0, len));
+        CHECK(memcmp(b.memory.bytes, datagram + 7, len) == 0 && nothing_unfinished(&b.node));
+        board_free(&b);
+    }
+}
+
+/* A datagram that is too long is rejected once, however long it is: at the Middle that takes it past 72 bytes, or at the Last. */
+static void test_too_long(void)
+{
+    for (size_t len = 73; len <= 200; len++) {
+        const size_t count = (len + 7) / 8;
+        size_t refusals = 0;
+        struct board b;
+
+        board_demonstration(&b);
+        for (size_t i = 0; i < count; i++) {
+            static const uint8_t data[8] = {0x20};
+            const uint32_t top = i == 0 ? FIRST : i + 1 == count ? LAST : MIDDLE;
+            const struct bujorelm_result answer = feed(&b, header_of(top, 0x22B, 0x123), data, i + 1 == count ? len - 8 * i : 8);
+
+            refusals += !is_joined(answer);
+            CHECK(is_joined(answer) || (i == 9 && is_refusal(answer, 0x2000)));
+        }
+        CHECK(refusals == 1 && nothing_unfinished(&b.node) && is_update_complete(feed_hex(&b, SINGLE, 0x123, "20A8")));
+        board_free(&b);
+    }
+}
+
+/* Two tools whose frames come by turns: the one is being swallowed while the other's datagram is joined and done, and then the other way round; and
+   both at once. */
+static void test_two_tools_swallowed(void)
+{
+    struct board b;
+
+    board_demonstration(&b);
+    CHECK(is_joined(feed_hex(&b, FIRST, 0x123, "2001000000000102")));
+    CHECK(is_joined(feed_hex(&b, FIRST, 0x456, "200100000008A1A2")));
+    CHECK(is_refusal(feed_hex(&b, FIRST, 0x123, "2001000000000102"), 0x2040));
+    CHECK(is_joined(feed_hex(&b, MIDDLE, 0x456, "A3")));
+    CHECK(is_joined(feed_hex(&b, MIDDLE, 0x123, "03")));
+    CHECK(is_written(feed_hex(&b, LAST, 0x456, "A4"), 8, 4));
+    CHECK(is_place(&b.node, 0, swallowed_place(0x123, b.tick)) && places_held(&b.node) == 1);
+    /* The other tool again, in the place that it has freed. */
+    CHECK(is_joined(feed_hex(&b, FIRST, 0x456, "200100000010B1B2")));
+    CHECK(is_joined(feed_hex(&b, LAST, 0x123, "04")));
+    CHECK(is_refusal(feed_hex(&b, SINGLE, 0x456, "20A8"), 0x2040));
+    CHECK(is_joined(feed_hex(&b, FIRST, 0x123, "2001000000000102")));
+    CHECK(is_joined(feed_hex(&b, MIDDLE, 0x456, "B3")));
+    CHECK(is_written(feed_hex(&b, LAST, 0x123, "0304"), 0, 4));
+    CHECK(is_joined(feed_hex(&b, LAST, 0x456, "B4")) && nothing_unfinished(&b.node));
+    CHECK(memcmp(b.memory.bytes, "\1\2\3\4\0\0\0\0\xA1\xA2\xA3\xA4\0\0\0\0\0\0\0\0", 20) == 0);
+    /* Both are being swallowed; the one's Last does not free the other's place. */
+    CHECK(is_joined(feed_hex(&b, FIRST, 0x123, "20")) && is_joined(feed_hex(&b, FIRST, 0x456, "20")));
+    CHECK(is_refusal(feed_hex(&b, MIDDLE, 0x456, ""), 0x2040) && is_refusal(feed_hex(&b, MIDDLE, 0x123, ""), 0x2040));
+    CHECK(is_joined(feed_hex(&b, LAST, 0x456, "A8")));
+    CHECK(is_place(&b.node, 0, swallowed_place(0x123, b.tick)) && is_place(&b.node, 1, free_place));
+    CHECK(is_refusal(feed_hex(&b, LAST, 0x456, "A8"), 0x2040) && is_joined(feed_hex(&b, LAST, 0x123, "A8")));
+    CHECK(nothing_unfinished(&b.node));
     board_free(&b);
 }
 
@@ -2692,10 +3492,11 @@ static void test_version(void)
 
 /* ---- Pseudo-random calls ---- */
 
-/* A book of one source, as document 01 and C-14 describe it: what that source's frames and the times of all calls say is unfinished. Times
-   count on past 65,535. */
+/* A book of one source, as document 01, C-14 and C-15 describe it: what that source's frames and the times of all calls say is unfinished, or that
+   the source is being swallowed. Times count on past 65,535. */
 struct book {
     bool held;
+    bool swallowed;
     uint64_t last;
     size_t len;
     uint8_t bytes[72];
@@ -2877,61 +3678,113 @@ struct expected {
     enum bujorelm_kind kind;
     uint16_t code;
     bool finished;
+    /* The source was being swallowed. */
+    bool swallowed;
     size_t len;
     uint8_t bytes[80];
 };
 
-/* What the books say of a frame. `others` is how many of the other sources have a datagram unfinished. */
-static struct expected book_step(struct book *book, uint64_t time, size_t others, uint16_t alias, uint32_t header, const uint8_t *data,
-                                 size_t len)
+static bool is_ignored(uint16_t alias, uint32_t header, size_t len)
 {
-    struct expected e = {.kind = BUJORELM_IGNORED};
     const uint32_t top = header >> 24;
 
-    if (len > 8 || top < SINGLE || top > LAST || (header >> 12 & 0xFFF) != alias || (header & 0xFFF) == alias) {
-        return e;
-    }
-    e.kind = BUJORELM_TRANSPORT_REFUSAL;
-    e.code = 0x2040;
-    if (top == SINGLE || top == FIRST) {
-        if (book->held) {
-            book->held = false;
-        } else if (top == SINGLE) {
-            e.finished = true;
-            e.len = len;
-            memcpy(e.bytes, data, len);
-        } else if (others >= 8) {
-            e.code = 0x2020;
-        } else {
-            e.kind = BUJORELM_JOINED;
-            book->held = true;
-            book->last = time;
-            book->len = len;
-            memcpy(book->bytes, data, len);
-        }
-    } else if (book->held && !(top == MIDDLE && len == 0)) {
-        if (book->len + len > 72) {
-            e.code = 0x2000;
-            book->held = false;
-        } else {
-            memcpy(book->bytes + book->len, data, len);
-            book->last = time;
-            book->len += len;
-            e.kind = BUJORELM_JOINED;
-            if (top == LAST) {
-                e.finished = true;
-                e.len = book->len;
-                memcpy(e.bytes, book->bytes, book->len);
-                book->held = false;
-            }
-        }
-    } else {
-        book->held = false;
-    }
+    return len > 8 || top < SINGLE || top > LAST || (header >> 12 & 0xFFF) != alias || (header & 0xFFF) == alias;
+}
+
+static struct expected refused_with(uint16_t code)
+{
+    return (struct expected){.kind = BUJORELM_TRANSPORT_REFUSAL, .code = code};
+}
+
+static struct expected finished_with(const uint8_t *bytes, size_t len)
+{
+    struct expected e = {.kind = BUJORELM_JOINED, .finished = true, .len = len};
+
+    memcpy(e.bytes, bytes, len);
     return e;
 }
 
-/* What the state keeps for a source is what its book holds. */
+/* Puts the data behind what the book holds. */
+static void book_append(struct book *book, uint64_t time, const uint8_t *data, size_t len)
+{
+    memcpy(book->bytes + book->len, data, len);
+    book->last = time;
+    book->len += len;
+}
+
+/* The datagram is broken: its book is blank behind a Last, and else has only that the source is being swallowed. */
+static struct expected book_break(struct book *book, uint32_t top, uint16_t code)
+{
+    book->held = top != LAST;
+    book->swallowed = true;
+    return refused_with(code);
+}
+
+/* A frame while the book is blank. `others` is how many of the other sources have a place. */
+static struct expected blank_step(struct book *book, uint64_t time, size_t others, uint32_t top, const uint8_t *data, size_t len)
+{
+    if (top == SINGLE) {
+        return finished_with(data, len);
+    }
+    if (top != FIRST || others >= 8) {
+        return refused_with(top == FIRST ? 0x2020 : 0x2040);
+    }
+    *book = (struct book){.held = true};
+    book_append(book, time, data, len);
+    return (struct expected){.kind = BUJORELM_JOINED};
+}
+
+/* A frame while the book holds bytes. */
+static struct expected holding_step(struct book *book, uint64_t time, uint32_t top, const uint8_t *data, size_t len)
+{
+    if (top == SINGLE || top == FIRST || (top == MIDDLE && len == 0)) {
+        return book_break(book, top, 0x2040);
+    }
+    if (book->len + len > 72) {
+        return book_break(book, top, 0x2000);
+    }
+    book_append(book, time, data, len);
+    book->held = top == MIDDLE;
+    return top == MIDDLE ? (struct expected){.kind = BUJORELM_JOINED} : finished_with(book->bytes, book->len);
+}
+
+/* A frame of a source that is being swallowed. */
+static struct expected swallowed_step(struct book *book, uint64_t time, size_t others, uint32_t top, const uint8_t *data, size_t len)
+{
+    struct expected e = {.kind = BUJORELM_JOINED};
+
+    if (top == SINGLE || top == FIRST) {
+        book->held = false;
+        e = blank_step(book, time, others, top, data, len);
+    } else {
+        book->held = top == MIDDLE;
+        book->last = time;
+    }
+    e.swallowed = true;
+    return e;
+}
+
+/* What the books say of a frame that is not ignored. */
+static struct expected book_step(struct book *book, uint64_t time, size_t others, uint32_t top, const uint8_t *data, size_t len)
+{
+    if (!book->held) {
+        return blank_step(book, time, others, top, data, len);
+    }
+    return book->swallowed ? swallowed_step(book, time, others, top, data, len) : holding_step(book, time, top, data, len);
+}
+
+/* What a place keeps for its source is what the book holds: bytes, or only that the source is being swallowed. */
+static bool place_has(const struct bujorelm_node *node, size_t index, const struct book *book)
+{
+    const struct bujorelm_place *const p = &node->reception.places[index];
+
+    if (!book->held || p->tick != (uint16_t)book->last || (p->swallowing != 0) != book->swallowed) {
+        return false;
+    }
+    return book->swallowed || (p->len == book->len && memcmp(node->pool + 72 * index, book->bytes, book->len) == 0);
+}
+
+/* The same of the state. */
 static bool state_has(const struct bujorelm_node *node, uint16_t source, const struct book *book)
 {
     size_t found = 0;
@@ -2941,14 +3794,17 @@ static bool state_has(const struct bujorelm_node *node, uint16_t source, const s
 
         if (p->held != 0 && p->source == source) {
             found++;
-            if (!book->held || p->len != book->len || p->tick != (uint16_t)book->last ||
-                memcmp(node->pool + 72 * i, book->bytes, book->len) != 0) {
+            if (!place_has(node, i, book)) {
                 return false;
             }
         }
     }
     return found == (book->held ? 1 : 0);
 }
+
+/* How often a source that was being swallowed was dropped for its age, and how often each sort of frame came from one. */
+static unsigned long swallowed_drops;
+static unsigned long swallowed_seen[4];
 
 /* Every book hears the time of every call: what is too old is dropped. Returns how many were. */
 static size_t books_hear(struct book *books, uint64_t time)
@@ -2957,6 +3813,7 @@ static size_t books_hear(struct book *books, uint64_t time)
 
     for (size_t i = 0; i < SOURCES; i++) {
         if (books[i].held && time - books[i].last > 3000) {
+            swallowed_drops += books[i].swallowed;
             books[i].held = false;
             dropped++;
         }
@@ -2982,7 +3839,7 @@ static uint32_t random_ticks(uint32_t pace)
     }
 }
 
-/* How often a datagram was dropped for its age: before a frame, and at a lone tick. */
+/* How often a place was freed for its age: before a frame, and at a lone tick. */
 static unsigned long drops_at_frames;
 static unsigned long drops_at_ticks;
 
@@ -3018,11 +3875,14 @@ static void random_places(struct bujorelm_reception *reception)
 
         if (random_below(4) == 0) {
             p->held = random_flag(p->held != 0);
-            random_bytes(p->unused, sizeof p->unused);
+            p->unused = (uint8_t)random_number();
+            p->swallowing = p->held == 0 ? (uint8_t)random_number() : random_flag(p->swallowing != 0);
             if (p->held == 0) {
-                p->len = (uint8_t)random_number();
                 p->source = (uint16_t)random_number();
                 p->tick = (uint16_t)random_number();
+            }
+            if (p->held == 0 || (p->swallowing != 0 && random_below(2) == 0)) {
+                p->len = (uint8_t)random_number();
             }
         }
     }
@@ -3119,7 +3979,11 @@ static void random_session(unsigned long frames)
                     others++;
                 }
             }
-            e = book_step(book, time, others, d.alias, header, data, len);
+            e = (struct expected){.kind = BUJORELM_IGNORED};
+            if (!is_ignored(d.alias, header, len)) {
+                e = book_step(book, time, others, header >> 24, data, len);
+                swallowed_seen[(header >> 24) - SINGLE] += e.swallowed;
+            }
             CHECK(!stranger.held);
             if (!e.finished) {
                 CHECK(is_answer(answer, e.kind, 0, 0, e.kind == BUJORELM_TRANSPORT_REFUSAL ? e.code : 0, 0));
@@ -3163,6 +4027,9 @@ static void random_session(unsigned long frames)
                 const struct bujorelm_reception kept = kept_at(&before.reception, b.tick);
 
                 CHECK(same_places(&b.node.reception, &kept));
+            }
+            /* What is ignored, refused or swallowed does not touch the pool; a First that opens a place does. */
+            if (e.kind != BUJORELM_JOINED || (e.swallowed && header >> 24 != FIRST)) {
                 CHECK(memcmp(b.node.pool, before.pool, sizeof before.pool) == 0);
             }
         }
@@ -3194,6 +4061,7 @@ int main(int argc, char **argv)
     test_limits_together();
     test_positions();
     test_bad_states();
+    test_bad_swallowed_states();
     test_table_bytes();
     test_table_sizes();
     test_place_bytes();
@@ -3208,6 +4076,22 @@ int main(int argc, char **argv)
     test_ticks_of_bad_states(step);
     test_ticks_of_free_places(step);
     test_tick_bytes();
+    test_breaches();
+    test_swallowed_frames();
+    test_swallowing_ends();
+    test_swallowed_places_are_taken();
+    test_reopening();
+    test_unchanged_place();
+    test_ignored_while_swallowing();
+    test_swallowing_bytes();
+    test_swallowed_ages();
+    test_every_swallowed_age(step);
+    test_next_swallowed_frame();
+    test_swallowed_renewal();
+    test_abandoned_while_swallowing();
+    test_lost_last();
+    test_too_long();
+    test_two_tools_swallowed();
     test_cutting();
     test_transport_replies();
     test_lines();
@@ -3232,7 +4116,10 @@ int main(int argc, char **argv)
         for (size_t i = 0; i < 9; i++) {
             CHECK(codes_seen[i] >= 10);
         }
-        CHECK(drops_at_frames >= 100 && drops_at_ticks >= 100);
+        CHECK(drops_at_frames >= 100 && drops_at_ticks >= 100 && swallowed_drops >= 20);
+        for (size_t i = 0; i < 4; i++) {
+            CHECK(swallowed_seen[i] >= 50);
+        }
     }
     return check_result("library");
 }

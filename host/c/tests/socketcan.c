@@ -1,6 +1,7 @@
 /*
  * A test of example/socketcan.c on a pair of sockets in the place of a CAN interface: the flags of can_id, what is sent, that what a write
- * changed is stored before the tool hears of it, and, on a clock that the test sets, when an unfinished datagram is dropped.
+ * changed is stored before the tool hears of it, and, on a clock that the test sets, when an unfinished datagram is dropped and what is swallowed
+ * behind a broken one.
  */
 int example_main(int argc, char **argv);
 #define main example_main
@@ -234,6 +235,21 @@ static void test_ticks(void)
     served_end(served);
 }
 
+/* A datagram whose Last was lost is sent again. That is rejected at its First, and the rest of it swallowed: what the board sends next is for
+   another tool. Then it is sent for the third time. */
+static void test_lost_last(void)
+{
+    const struct served served = serve_apart(-1);
+
+    begin(served, 1000);
+    ask(served, 0x1B22B123u, "20", out_of_order);
+    send_to(served, 0x1C22B123u | CAN_EFF_FLAG, "");
+    send_to(served, 0x1D22B123u | CAN_EFF_FLAG, "A8");
+    begin(served, 1000);
+    end(served, 1000, finished);
+    served_end(served);
+}
+
 int main(void)
 {
     start_clock();
@@ -241,5 +257,6 @@ int main(void)
     test_serving();
     test_failing_store();
     test_ticks();
+    test_lost_last();
     return check_result("socketcan");
 }

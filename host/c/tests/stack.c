@@ -147,16 +147,19 @@ static void make_datagram(uint8_t command)
     subject.datagram_len = len;
 }
 
-/* Fills the eight places, each with a tick of its own. */
+/* Fills the eight places, each with a tick of its own. Every second source is being swallowed. */
 static void fill_places(void)
 {
     for (size_t i = 0; i < BUJORELM_PLACES; i++) {
-        subject.node.reception.places[i] =
-            (struct bujorelm_place){.held = 1, .len = (uint8_t)(8 * i), .source = (uint16_t)(0x200 + i), .tick = (uint16_t)(500 * i)};
+        subject.node.reception.places[i] = (struct bujorelm_place){.held = 1,
+                                                                   .len = (uint8_t)(8 * i),
+                                                                   .source = (uint16_t)(0x200 + i),
+                                                                   .tick = (uint16_t)(400 * i),
+                                                                   .swallowing = (uint8_t)(i % 2)};
     }
 }
 
-/* Lone ticks, and frames of every sort: with none, some and all of eight datagrams too old, and with a state that is refused. */
+/* Lone ticks, and frames of every sort: with none, some and all of eight places too old, and with a state that is refused. */
 static void measure_ticks(void)
 {
     for (unsigned tick = 0; tick <= 0xFFFF; tick += 250) {
@@ -173,10 +176,31 @@ static void measure_ticks(void)
         }
         fill_places();
         measure(NODE_CHECK);
-        subject.node.reception.places[7].len = 73;
+        subject.node.reception.places[7].source = 0x1000;
         measure(HANDLE_TICK);
         subject.node.reception = (struct bujorelm_reception){.places = {{.held = 0}}};
     }
+}
+
+/* The same frame from a source that is being swallowed in the last of eight places, of which none or half are too old: a Single ends the swallowing
+   and is handled, and a First opens its own place. */
+static void measure_swallowed(void)
+{
+    static const struct {
+        size_t call;
+        uint16_t tick;
+    } cases[] = {{HANDLE_FRAME, 3000}, {HANDLE_FRAME, 4500}, {NODE_RECEIVE, 3000}, {NODE_RECEIVE, 4500}};
+    const struct bujorelm_node before = subject.node;
+    const uint16_t tick = subject.tick;
+
+    for (size_t i = 0; i < sizeof cases / sizeof cases[0]; i++) {
+        fill_places();
+        subject.node.reception.places[7].source = bujorelm_source_of(subject.frame.header);
+        subject.tick = cases[i].tick;
+        measure(cases[i].call);
+    }
+    subject.tick = tick;
+    subject.node = before;
 }
 
 /* Measures every call along the way of one datagram through the board. */
@@ -195,6 +219,7 @@ static void walk(bool lines)
         const struct bujorelm_node before = subject.node;
 
         subject.frame = way[i];
+        measure_swallowed();
         measure(HANDLE_FRAME);
         measure(PRINT_FRAME);
         measure(PARSE_LINE);

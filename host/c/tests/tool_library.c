@@ -524,17 +524,21 @@ static void test_join_refusals(void)
     CHECK(is_joined(join(&l, 0x1B45622B, eight, 8), BUJORELM_JOINED_REFUSED, 0x2040));
     CHECK(is_joined(join(&l, 0x1B45622B, eight, 8), BUJORELM_JOINED_PART, 0));
     CHECK(is_joined(join(&l, 0x1C45622B, NULL, 0), BUJORELM_JOINED_REFUSED, 0x2040));
-    /* Too long: 72 bytes, and a Middle behind them. */
+    /* Too long: 72 bytes, and a Middle behind them. The Last that is swallowed then frees the place. */
     CHECK(is_joined(join(&l, 0x1B45622B, eight, 8), BUJORELM_JOINED_PART, 0));
     for (size_t i = 0; i < 8; i++) {
         CHECK(is_joined(join(&l, 0x1C45622B, eight, 8), BUJORELM_JOINED_PART, 0));
     }
     CHECK(is_joined(join(&l, 0x1C45622B, eight, 1), BUJORELM_JOINED_REFUSED, 0x2000));
-    /* Eight boards at once, and a ninth. */
+    CHECK(is_joined(join(&l, 0x1D45622B, eight, 8), BUJORELM_JOINED_PART, 0));
+    /* Eight boards at once, and a ninth; a board that is being swallowed keeps its place. */
     for (uint32_t board = 1; board <= 8; board++) {
         CHECK(is_joined(join(&l, 0x1B456000 | board, eight, 8), BUJORELM_JOINED_PART, 0));
     }
     CHECK(is_joined(join(&l, 0x1B456009, eight, 8), BUJORELM_JOINED_REFUSED, 0x2020));
+    CHECK(is_joined(join(&l, 0x1B456008, eight, 8), BUJORELM_JOINED_REFUSED, 0x2040));
+    CHECK(is_joined(join(&l, 0x1B456009, eight, 8), BUJORELM_JOINED_REFUSED, 0x2020));
+    CHECK(is_joined(join(&l, 0x1B456008, eight, 8), BUJORELM_JOINED_PART, 0));
     CHECK(is_joined(join(&l, 0x1A45600A, eight, 8), BUJORELM_JOINED_IN_FRAME, 0));
     for (uint32_t board = 1; board <= 8; board++) {
         const struct bujorelm_joined joined = join(&l, 0x1D456000 | board, eight, (size_t)board - 1);
@@ -544,12 +548,115 @@ static void test_join_refusals(void)
     lent_free(&l);
 }
 
+/* A frame of the board 0x22B, which has the first place. Afterwards that has just these bytes, and nothing else has changed. */
+static struct bujorelm_joined join_step(const struct lent *l, uint32_t top, size_t len, const char *after)
+{
+    static const uint8_t data[8] = {1, 2, 3, 4, 5, 6, 7, 8};
+    uint8_t pool[BUJORELM_POOL_SIZE];
+    uint8_t places[sizeof(struct bujorelm_reception)];
+    struct bujorelm_joined joined;
+
+    memcpy(pool, l->pool.bytes, sizeof pool);
+    memcpy(places, l->reception.bytes, sizeof places);
+    CHECK(from_hex(after, places) == 8);
+    joined = join(l, top << 24 | TOOL << 12 | BOARD, data, len);
+    CHECK_CASE(memcmp(l->reception.bytes, places, sizeof places) == 0, after);
+    CHECK_CASE(memcmp(l->pool.bytes, pool, sizeof pool) == 0, after);
+    return joined;
+}
+
+static const char swallowed[] = "01 00 2B02 0000 01 00";
+static const char nothing_kept[] = "00 00 0000 0000 00 00";
+
+/* What is left of a broken datagram: its frames are parts, for which nothing is sent, up to the Last, which frees the place. */
+static void check_swallowed(const struct lent *l)
+{
+    for (size_t len = 0; len <= 8; len++) {
+        CHECK(is_joined(join_step(l, 0x1C, len, swallowed), BUJORELM_JOINED_PART, 0));
+    }
+    CHECK(is_joined(join_step(l, 0x1D, 5, nothing_kept), BUJORELM_JOINED_PART, 0));
+    CHECK(is_joined(join_step(l, 0x1C, 5, nothing_kept), BUJORELM_JOINED_REFUSED, 0x2040));
+    CHECK(is_joined(join_step(l, 0x1D, 5, nothing_kept), BUJORELM_JOINED_REFUSED, 0x2040));
+}
+
+/* A reply datagram that breaks is refused once, whatever breaks it and however many frames are behind. A refused Last leaves nothing to swallow. */
+static void test_join_broken(void)
+{
+    static const struct {
+        uint32_t top;
+        size_t len;
+        uint16_t code;
+    } breaches[] = {{0x1A, 8, 0x2040}, {0x1B, 8, 0x2040}, {0x1C, 0, 0x2040}, {0x1C, 8, 0x2000}, {0x1D, 8, 0x2000}};
+    static const uint8_t eight[8] = {8, 7, 6, 5, 4, 3, 2, 1};
+
+    for (size_t i = 0; i < sizeof breaches / sizeof breaches[0]; i++) {
+        const bool is_last = breaches[i].top == 0x1D;
+        struct lent l;
+
+        lent_new(&l, i % 2 == 0);
+        CHECK(is_joined(join(&l, 0x1B45622B, eight, 8), BUJORELM_JOINED_PART, 0));
+        for (size_t n = 0; n < 8; n++) {
+            CHECK(is_joined(join(&l, 0x1C45622B, eight, 8), BUJORELM_JOINED_PART, 0));
+        }
+        CHECK(is_joined(join_step(&l, breaches[i].top, breaches[i].len, is_last ? nothing_kept : swallowed), BUJORELM_JOINED_REFUSED,
+                        breaches[i].code));
+        if (!is_last) {
+            check_swallowed(&l);
+        }
+        lent_free(&l);
+    }
+}
+
+/* The board sends it again: in a First, which opens a datagram in the board's own place, or in a Single. */
+static void test_join_repeated(void)
+{
+    static const uint8_t eight[8] = {8, 7, 6, 5, 4, 3, 2, 1};
+    struct bujorelm_joined joined;
+    struct lent l;
+
+    lent_new(&l, true);
+    CHECK(is_joined(join(&l, 0x1B45622B, eight, 8), BUJORELM_JOINED_PART, 0));
+    CHECK(is_joined(join_step(&l, 0x1B, 8, swallowed), BUJORELM_JOINED_REFUSED, 0x2040));
+    CHECK(is_joined(join_step(&l, 0x1A, 8, nothing_kept), BUJORELM_JOINED_IN_FRAME, 0));
+    CHECK(is_joined(join(&l, 0x1B45622B, eight, 8), BUJORELM_JOINED_PART, 0));
+    CHECK(is_joined(join_step(&l, 0x1C, 0, swallowed), BUJORELM_JOINED_REFUSED, 0x2040));
+    CHECK(is_joined(join(&l, 0x1B45622B, eight + 2, 6), BUJORELM_JOINED_PART, 0));
+    CHECK(memcmp(l.reception.bytes, "\x01\x06\x2B\x02\0\0\0\0", 8) == 0);
+    joined = join(&l, 0x1D45622B, eight, 8);
+    CHECK(is_joined(joined, BUJORELM_JOINED_IN_POOL, 0) && joined.start == 0 && joined.end == 14);
+    CHECK(memcmp(l.pool.bytes, eight + 2, 6) == 0 && memcmp(l.pool.bytes + 6, eight, 8) == 0);
+    lent_free(&l);
+}
+
+/* A First opens a datagram in the place that its board has, also where an earlier one is free; and no length is asked of a board that is being
+   swallowed. */
+static void test_join_own_place(void)
+{
+    static const uint8_t eight[8] = {8, 7, 6, 5, 4, 3, 2, 1};
+    struct bujorelm_place *places;
+    struct lent l;
+
+    lent_new(&l, false);
+    places = ((struct bujorelm_reception *)(void *)l.reception.bytes)->places;
+    places[5] = (struct bujorelm_place){.held = 1, .len = 255, .source = BOARD, .swallowing = 0x80};
+    CHECK(is_joined(join(&l, 0x1A45622C, eight, 8), BUJORELM_JOINED_IN_FRAME, 0) && places[5].len == 255);
+    CHECK(is_joined(join(&l, 0x1C45622B, eight, 8), BUJORELM_JOINED_PART, 0));
+    CHECK(memcmp(&places[5], "\x01\x00\x2B\x02\0\0\x01\0", 8) == 0 && places[0].held == 0);
+    CHECK(is_joined(join(&l, 0x1B45622B, eight, 3), BUJORELM_JOINED_PART, 0));
+    CHECK(memcmp(&places[5], "\x01\x03\x2B\x02\0\0\0\0", 8) == 0 && places[0].held == 0);
+    CHECK(is_untouched(l.pool.bytes, 0, 360) && memcmp(l.pool.bytes + 360, eight, 3) == 0 && is_untouched(l.pool.bytes, 363, 576));
+    lent_free(&l);
+}
+
 /* A state that no call has left is found, and nothing of it changes. */
 static void test_join_bad_state(void)
 {
     static const uint8_t eight[8] = {0};
-    static const struct bujorelm_place bad[] = {
-        {.held = 1, .len = 73, .source = 5}, {.held = 1, .len = 8, .source = 0x1000}, {.held = 1, .len = 8, .source = 0x123}};
+    static const struct bujorelm_place bad[] = {{.held = 1, .len = 73, .source = 5},
+                                                {.held = 1, .len = 8, .source = 0x1000},
+                                                {.held = 1, .len = 8, .source = 0x123},
+                                                {.held = 1, .source = 0x1000, .swallowing = 1},
+                                                {.held = 1, .source = 0x123, .swallowing = 1}};
 
     for (size_t i = 0; i < sizeof bad / sizeof bad[0]; i++) {
         struct bujorelm_reception before;
@@ -613,7 +720,7 @@ static void random_joins(unsigned long count)
 
 static void test_version(void)
 {
-    CHECK(bujorelm_tool_version() == 0x00010000 && BUJORELM_TOOL_VERSION == 0x00010000 && bujorelm_tool_version_fits());
+    CHECK(bujorelm_tool_version() == 0x00020000 && BUJORELM_TOOL_VERSION == 0x00020000 && bujorelm_tool_version_fits());
     CHECK(BUJORELM_COMMAND_MIN == 72 && BUJORELM_RECEIVED_OK_MAX == 1 && BUJORELM_REJECTED_MAX == 66);
 }
 
@@ -636,6 +743,9 @@ int main(int argc, char **argv)
     random_meetings(count);
     test_join();
     test_join_refusals();
+    test_join_broken();
+    test_join_repeated();
+    test_join_own_place();
     test_join_bad_state();
     random_joins(count);
     return check_result("tool_library");

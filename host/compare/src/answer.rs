@@ -15,7 +15,7 @@ pub enum Answer {
     },
     /// The frame is ignored.
     Ignored,
-    /// The frame is joined and not answered.
+    /// The frame is joined or swallowed, and not answered.
     Nothing,
     /// Refused by the transport with this code.
     TransportRefusal(u16),

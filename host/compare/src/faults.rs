@@ -5,7 +5,7 @@
 use crate::answer::Answer;
 use crate::ffi::{Places, MOST_SPACES, PLACES, PLACE_BYTES};
 use crate::generate::{Board, LARGEST_STORE, LAST_ALIAS};
-use crate::layout::{held, place, Held};
+use crate::layout::{held, place};
 use model::Space;
 
 /// How many limits there are: the number of spaces, memory, flash and the alias, in the order of
@@ -118,18 +118,82 @@ pub struct Wrong {
     pub damaged: bool,
 }
 
-/// Whether these places are damaged: one is held with over 72 bytes or by a source over 4,095, or
-/// two by one source.
+/// What is wrong with places. A place whose source is being swallowed has a source like any other,
+/// but no datagram, so that nothing is asked of its length.
+#[derive(Clone, Copy, Debug, Default, PartialEq, Eq)]
+pub struct Damage {
+    /// A datagram of over 72 bytes.
+    pub long: bool,
+    /// A datagram of a source over 4,095.
+    pub wide: bool,
+    /// A source over 4,095 that is being swallowed.
+    pub wide_swallowed: bool,
+    /// Two datagrams of one source.
+    pub twice: bool,
+    /// A datagram of a source that is being swallowed too, in a place behind it.
+    pub swallowed_behind: bool,
+    /// The same with the places the other way round.
+    pub swallowed_before: bool,
+    /// A source that is being swallowed twice.
+    pub twice_swallowed: bool,
+}
+
+impl Damage {
+    /// Of these places.
+    #[must_use]
+    pub fn of(places: &Places) -> Self {
+        let mut damage = Self::default();
+        let at = |index| held(place(places, index));
+        for (index, one) in (0..PLACES).filter_map(|index| Some((index, at(index)?))) {
+            let wide = one.source > LAST_ALIAS;
+            damage.wide |= wide && !one.swallowing;
+            damage.wide_swallowed |= wide && one.swallowing;
+            damage.long |= usize::from(one.len) > PLACE_BYTES && !one.swallowing;
+            let twins = (0..index).filter_map(at);
+            for earlier in twins.filter(|earlier| earlier.source == one.source) {
+                match (earlier.swallowing, one.swallowing) {
+                    (false, false) => damage.twice = true,
+                    (false, true) => damage.swallowed_behind = true,
+                    (true, false) => damage.swallowed_before = true,
+                    (true, true) => damage.twice_swallowed = true,
+                }
+            }
+        }
+        damage
+    }
+
+    /// Each of them, in their order.
+    #[must_use]
+    pub const fn each(&self) -> [bool; 7] {
+        [
+            self.long,
+            self.wide,
+            self.wide_swallowed,
+            self.twice,
+            self.swallowed_behind,
+            self.swallowed_before,
+            self.twice_swallowed,
+        ]
+    }
+
+    /// Whether it is one of them alone.
+    #[must_use]
+    pub fn is_single(&self) -> bool {
+        self.each().iter().filter(|&&is| is).count() == 1
+    }
+}
+
+/// Whether these places are damaged.
 #[must_use]
 pub fn is_damaged(places: &Places) -> bool {
-    let at = |index| held(place(places, index));
-    (0..PLACES).any(|index| {
-        at(index).is_some_and(|Held { len, source, .. }| {
-            usize::from(len) > PLACE_BYTES
-                || source > LAST_ALIAS
-                || (0..index).any(|other| at(other).is_some_and(|other| other.source == source))
-        })
-    })
+    Damage::of(places).each().contains(&true)
+}
+
+/// Whether a source is being swallowed whose place has a length over 72, which means nothing.
+#[must_use]
+pub fn has_long_swallowed(places: &Places) -> bool {
+    let mut held = (0..PLACES).filter_map(|index| held(place(places, index)));
+    held.any(|held| held.swallowing && usize::from(held.len) > PLACE_BYTES)
 }
 
 #[cfg(test)]
@@ -138,6 +202,7 @@ mod tests {
     use crate::demonstration::{ALIAS, FLASH, MEMORY_LEN, TABLE, WRITE_LENGTHS};
     use crate::ffi::SPACE_SIZE;
     use crate::generate::{damage_places, good_board, sound_places, spoil_board, tools};
+    use crate::layout::{canonical, set_place, Held};
     use crate::random::Random;
     use crate::setup::for_model;
 
@@ -212,6 +277,98 @@ mod tests {
         }
         good.alias = 4_096;
         assert_eq!(Faults::of(&good).refusal(), house(14, None));
+    }
+
+    /// What a place is held for: length, source, being swallowed.
+    type What = (u8, u16, bool);
+
+    /// Places of which the first ones are held for these.
+    fn places(what: &[What]) -> Places {
+        let mut places = [0; 64];
+        for (index, &(len, source, swallowing)) in what.iter().enumerate() {
+            let held = Held {
+                len,
+                source,
+                tick: 0,
+                swallowing,
+            };
+            set_place(&mut places, index, canonical(Some(held)));
+            places[8 * index + 1] = len;
+        }
+        places
+    }
+
+    #[test]
+    fn what_is_wrong_with_places() {
+        let none = Damage::default();
+        let (long, wide, twice) = (true, true, true);
+        let (wide_swallowed, twice_swallowed) = (true, true);
+        let (swallowed_behind, swallowed_before) = (true, true);
+        let cases: [(&[What], Damage); 12] = [
+            (&[], none),
+            (&[(72, 4_095, false), (72, 0, true), (0, 1, true)], none),
+            (&[(73, 1, false)], Damage { long, ..none }),
+            (&[(73, 1, true), (255, 2, true)], none),
+            (&[(0, 4_096, false)], Damage { wide, ..none }),
+            (
+                &[(0, 4_096, true)],
+                Damage {
+                    wide_swallowed,
+                    ..none
+                },
+            ),
+            (&[(0, 7, false), (0, 7, false)], Damage { twice, ..none }),
+            (
+                &[(0, 7, false), (0, 6, true), (0, 7, true)],
+                Damage {
+                    swallowed_behind,
+                    ..none
+                },
+            ),
+            (
+                &[(9, 7, true), (0, 7, false)],
+                Damage {
+                    swallowed_before,
+                    ..none
+                },
+            ),
+            (
+                &[(255, 7, true), (0, 7, true)],
+                Damage {
+                    twice_swallowed,
+                    ..none
+                },
+            ),
+            (
+                &[(0, 7, true), (0, 7, true), (0, 7, false)],
+                Damage {
+                    swallowed_before,
+                    twice_swallowed,
+                    ..none
+                },
+            ),
+            (
+                &[(73, 0xFFFF, false), (0, 0xFFFF, true)],
+                Damage {
+                    long,
+                    wide,
+                    wide_swallowed,
+                    swallowed_behind,
+                    ..none
+                },
+            ),
+        ];
+        for (what, damage) in cases {
+            let places = places(what);
+            assert_eq!(Damage::of(&places), damage, "{what:?}");
+            assert_eq!(is_damaged(&places), damage != none, "{what:?}");
+            let checked = for_model(&places, &[0; 576], 0).check();
+            assert_eq!(checked.is_err(), damage != none, "{what:?}");
+            let long = what
+                .iter()
+                .any(|&(len, _, swallowed)| swallowed && len > 72);
+            assert_eq!(has_long_swallowed(&places), long, "{what:?}");
+        }
     }
 
     #[test]

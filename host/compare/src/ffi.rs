@@ -33,7 +33,7 @@ pub const SENT_SIZE: usize = MOST_SENT * FRAME_SIZE;
 pub const CARRY_SIZE: usize = 29;
 /// The version of the edge that this module is written for: major in the upper 16 bits, minor in
 /// the lower 16.
-pub const VERSION: u32 = 0x0004_0000;
+pub const VERSION: u32 = 0x0005_0000;
 /// In the place of a position where there is none. It is not 0, which is the first space's.
 pub const NO_POSITION: u8 = 255;
 

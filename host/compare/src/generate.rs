@@ -2,6 +2,7 @@
 //! and lines. It leans to the edges, where two readings of document 01 would part.
 
 use crate::ffi::{Places, MOST_SPACES, PLACES, PLACES_SIZE, PLACE_BYTES, SPACE_SIZE};
+use crate::joining::{FIRST, LAST, MIDDLE, SINGLE};
 use crate::layout::{any_place, held, place, set_place, spaces_in, table_of, Held};
 use crate::random::Random;
 use crate::times::{any_age, GREATEST_AGE};
@@ -634,11 +635,6 @@ pub struct Incoming {
     pub data: Vec<u8>,
 }
 
-const SINGLE: u32 = 0x1A;
-const FIRST: u32 = 0x1B;
-const MIDDLE: u32 = 0x1C;
-const LAST: u32 = 0x1D;
-
 impl Tool {
     /// A tool with this alias.
     #[must_use]
@@ -774,21 +770,40 @@ pub fn sound_places(random: &mut Random, tools: &[Tool], tick: u16, oldest: u16)
     places
 }
 
-/// A datagram of this source of any length, so old at this tick.
+/// Something of this source that a place may be held for, so old at this tick.
 pub fn any_held(random: &mut Random, source: u16, tick: u16, age: u16) -> Held {
-    let len = match random.below(4) {
-        0 => random.pick(&[0, 1, 64, 71, 72]),
-        _ => random.between(0, PLACE_BYTES) as u8,
+    let swallowing = random.once_in(3);
+    held_for(random, swallowing, source, tick, age)
+}
+
+/// What a place is held for whose source is being swallowed, or else has a datagram of any length
+/// unfinished; so old at this tick.
+pub fn held_for(random: &mut Random, swallowing: bool, source: u16, tick: u16, age: u16) -> Held {
+    let len = match (swallowing, random.below(4)) {
+        (true, _) => no_len(random),
+        (false, 0) => random.pick(&[0, 1, 64, 71, 72]),
+        (false, _) => random.between(0, PLACE_BYTES) as u8,
     };
     Held {
         len,
         source,
         tick: tick.wrapping_sub(age),
+        swallowing,
     }
 }
 
-/// Places that B7 lets pass, with datagrams of any age at this tick, as only a caller with a long
-/// pause has them: often eight, of these tools and of others, and at times all of them due.
+/// A length that means nothing: often 0, as the library writes it, and often one that no datagram
+/// may have.
+fn no_len(random: &mut Random) -> u8 {
+    match random.below(4) {
+        0 | 1 => 0,
+        2 => random.pick(&[1, 72, 73, 128, 255]),
+        _ => random.byte(),
+    }
+}
+
+/// Places that B7 lets pass, of any age at this tick, as only a caller with a long pause has them:
+/// often eight, of these tools and of others, and at times all of them due.
 pub fn old_places(random: &mut Random, tools: &[Tool], tick: u16) -> Places {
     let mut places = [0; PLACES_SIZE];
     let mut sources: Vec<u16> = Vec::with_capacity(PLACES);
@@ -821,11 +836,14 @@ pub fn any_frame(random: &mut Random, board: &Board, source: u16) -> Incoming {
     }
 }
 
-/// Other bytes for places that hold the same, as a caller may leave them between two calls.
+/// Other bytes for places that are held for the same, as a caller may leave them between two calls.
 pub fn rewrite_places(random: &mut Random, places: &mut Places) {
     for index in 0..PLACES {
         if random.once_in(2) {
-            let what = held(place(places, index));
+            let mut what = held(place(places, index));
+            if let Some(what) = what.as_mut().filter(|what| what.swallowing) {
+                what.len = no_len(random);
+            }
             set_place(places, index, any_place(random, what));
         }
     }
@@ -835,25 +853,28 @@ pub fn rewrite_places(random: &mut Random, places: &mut Places) {
 pub fn damage_places(random: &mut Random, places: &mut Places) {
     let index = random.below(PLACES);
     let other = (index + random.between(1, PLACES - 1)) % PLACES;
-    let free = Held {
-        len: random.below(PLACE_BYTES + 1) as u8,
-        source: random.below(0x1000) as u16,
-        tick: random.half(),
-    };
+    let (source, tick) = (random.below(0x1000) as u16, random.half());
+    let free = any_held(random, source, tick, 0);
     let mut damaged = held(place(places, index)).unwrap_or(free);
-    let mut twin = held(place(places, other)).unwrap_or(free);
+    let twin = held(place(places, other)).unwrap_or(free);
     match random.below(4) {
-        0 => damaged.len = random.pick(&[73, 74, 80, 128, 200, 255]),
-        1 => damaged.source = random.pick(&[0x1000, 0x1001, 0x8000, 0xFFFF, 0x1000 | free.source]),
+        // Where a source is being swallowed there is no length.
+        0 => {
+            damaged.len = random.pick(&[73, 74, 80, 128, 200, 255]);
+            damaged.swallowing = false;
+        }
+        1 => damaged.source = random.pick(&[0x1000, 0x1001, 0x8000, 0xFFFF, 0x1000 | source]),
+        // Either of the two with a datagram or being swallowed.
         2 => {
-            damaged.source = twin.source;
-            twin.len = random.below(PLACE_BYTES + 1) as u8;
+            damaged = any_held(random, twin.source, damaged.tick, 0);
+            let twin = any_held(random, twin.source, twin.tick, 0);
             set_place(places, other, any_place(random, Some(twin)));
         }
         // Nothing but random bytes, of which one place at least is too long.
         _ => {
             random.fill(places);
             damaged.len |= 0x80;
+            damaged.swallowing = false;
         }
     }
     set_place(places, index, any_place(random, Some(damaged)));
@@ -913,6 +934,8 @@ pub fn line(random: &mut Random) -> Vec<u8> {
 #[cfg(test)]
 mod tests {
     use super::*;
+    use crate::faults::Damage;
+    use crate::layout::unfinished;
     use crate::setup::for_model;
     use crate::times::age;
 
@@ -928,14 +951,12 @@ mod tests {
             let tools = tools(&mut random, &board);
             let (tick, oldest) = (random.half(), random.half());
             let mut places = sound_places(&mut random, &tools, tick, oldest);
-            let before: Vec<_> = (0..PLACES).map(|at| held(place(&places, at))).collect();
-            assert!(before
-                .iter()
-                .flatten()
-                .all(|&held| age(held, tick) <= oldest));
+            let before = places;
+            assert!((0..PLACES)
+                .filter_map(|at| held(place(&before, at)))
+                .all(|held| age(held, tick) <= oldest));
             rewrite_places(&mut random, &mut places);
-            let after: Vec<_> = (0..PLACES).map(|at| held(place(&places, at))).collect();
-            assert_eq!(before, after);
+            assert!(unfinished(&before, &[0; 576]).eq(unfinished(&places, &[0; 576])));
             assert_eq!(for_model(&places, &[0; 576], 70_000).check(), Ok(()));
             damage_places(&mut random, &mut places);
             assert!(for_model(&places, &[0; 576], 70_000).check().is_err());
@@ -960,5 +981,23 @@ mod tests {
             all_due += usize::from(dues == [true; PLACES]);
         }
         assert!(full > all_due && all_due > 100, "{full}, {all_due}");
+    }
+
+    #[test]
+    fn places_are_damaged_in_every_way() {
+        let mut random = Random::new(15);
+        let mut alone = [0; 7];
+        for _ in 0..4_000 {
+            let tools = [Tool::new(1), Tool::new(2), Tool::new(3)];
+            let mut places = sound_places(&mut random, &tools, 0, 0);
+            damage_places(&mut random, &mut places);
+            let damage = Damage::of(&places);
+            if damage.is_single() {
+                for (count, is) in alone.iter_mut().zip(damage.each()) {
+                    *count += usize::from(is);
+                }
+            }
+        }
+        assert!(alone.iter().all(|&count| count > 50), "{alone:?}");
     }
 }

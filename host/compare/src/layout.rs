@@ -87,28 +87,34 @@ impl TableKind {
     }
 }
 
-/// What a place holds: so many bytes of that source.
+/// What a place is held for: a datagram of that source, of which so many bytes have come, or that
+/// source alone, while it is being swallowed.
 #[derive(Clone, Copy, Debug, PartialEq, Eq)]
 pub struct Held {
-    /// How many bytes are joined so far.
+    /// How many bytes are joined so far. It means nothing while the source is being swallowed, but
+    /// a call that makes another number of it has changed the place.
     pub len: u8,
     /// The alias of the tool.
     pub source: u16,
     /// The tick of its last accepted frame.
     pub tick: u16,
+    /// Whether the source is being swallowed.
+    pub swallowing: bool,
 }
 
-/// An unfinished datagram, whichever side has it.
+/// An unfinished datagram or a source that is being swallowed, whichever side has it.
 #[derive(Clone, Copy, Debug, PartialEq, Eq, PartialOrd, Ord)]
 pub struct Entry<'p> {
     /// The alias of the tool.
     pub source: u16,
-    /// How many bytes are joined so far.
+    /// How many bytes are joined so far; 0 while the source is being swallowed.
     pub length: usize,
     /// These bytes, but never over 72.
     pub bytes: &'p [u8],
     /// The tick of its source's last accepted frame.
     pub tick: u16,
+    /// Whether the source is being swallowed.
+    pub swallowing: bool,
 }
 
 impl<'p> Entry<'p> {
@@ -122,6 +128,7 @@ impl<'p> Entry<'p> {
             length: self.length,
             bytes: self.bytes,
             last_accepted: time.wrapping_sub(age as u64),
+            swallowed: self.swallowing,
         }
     }
 }
@@ -133,6 +140,7 @@ impl<'p> From<Unfinished<'p>> for Entry<'p> {
             length: unfinished.length,
             bytes: unfinished.bytes,
             tick: unfinished.last_accepted as u16,
+            swallowing: unfinished.swallowed,
         }
     }
 }
@@ -150,52 +158,59 @@ pub fn set_place(places: &mut Places, index: usize, bytes: [u8; PLACE_SIZE]) {
     places[PLACE_SIZE * index..][..PLACE_SIZE].copy_from_slice(&bytes);
 }
 
-/// What the place with these bytes holds, if anything: held where its first byte is not 0, then
-/// the length, then the source and the tick, each with its least significant byte first. The last
-/// two bytes mean nothing.
+/// What the place with these bytes is held for, if for anything: held where its first byte is not
+/// 0, then the length, then the source and the tick, each with its least significant byte first;
+/// its source is being swallowed where the byte behind them is not 0. The last byte means nothing.
 #[must_use]
 pub fn held(bytes: [u8; PLACE_SIZE]) -> Option<Held> {
-    let [held, len, low, high, tick_low, tick_high, ..] = bytes;
+    let [held, len, low, high, tick_low, tick_high, swallowing, _] = bytes;
     (held != 0).then_some(Held {
         len,
         source: u16::from_le_bytes([low, high]),
         tick: u16::from_le_bytes([tick_low, tick_high]),
+        swallowing: swallowing != 0,
     })
 }
 
-/// The bytes that a place has after a call that changed it.
+/// The bytes that a place has after a call that changed it. Where its source is being swallowed,
+/// the length is 0.
 #[must_use]
 pub fn canonical(held: Option<Held>) -> [u8; PLACE_SIZE] {
-    held.map_or([0; PLACE_SIZE], |Held { len, source, tick }| {
-        let [low, high] = source.to_le_bytes();
-        let [tick_low, tick_high] = tick.to_le_bytes();
-        [1, len, low, high, tick_low, tick_high, 0, 0]
+    held.map_or([0; PLACE_SIZE], |held| {
+        let [low, high] = held.source.to_le_bytes();
+        let [tick_low, tick_high] = held.tick.to_le_bytes();
+        let len = if held.swallowing { 0 } else { held.len };
+        let swallowing = u8::from(held.swallowing);
+        [1, len, low, high, tick_low, tick_high, swallowing, 0]
     })
 }
 
-/// A place that holds this, one of many: held by any byte but 0, and anything in the bytes that
-/// mean nothing.
+/// A place that is held for this, one of many: yes is any byte but 0, and anything is in the bytes
+/// that mean nothing.
 pub fn any_place(random: &mut Random, held: Option<Held>) -> [u8; PLACE_SIZE] {
     let mut bytes = random.number().to_le_bytes();
     bytes[0] = flag(random, held.is_some());
-    if let Some(Held { len, source, tick }) = held {
-        bytes[1] = len;
-        [bytes[2], bytes[3]] = source.to_le_bytes();
-        [bytes[4], bytes[5]] = tick.to_le_bytes();
+    if let Some(held) = held {
+        bytes[1] = held.len;
+        [bytes[2], bytes[3]] = held.source.to_le_bytes();
+        [bytes[4], bytes[5]] = held.tick.to_le_bytes();
+        bytes[6] = flag(random, held.swallowing);
     }
     bytes
 }
 
-/// The unfinished datagrams in the places, in their order.
+/// What the places are held for, in their order. Nothing is left of a datagram whose source is
+/// being swallowed.
 pub fn unfinished<'p>(places: &'p Places, pool: &'p [u8]) -> impl Iterator<Item = Entry<'p>> + 'p {
     (0..PLACES).filter_map(move |index| {
-        let Held { len, source, tick } = held(place(places, index))?;
-        let length = usize::from(len);
+        let held = held(place(places, index))?;
+        let length = if held.swallowing { 0 } else { held.len.into() };
         Some(Entry {
-            source,
+            source: held.source,
             length,
             bytes: &pool[PLACE_BYTES * index..][..length.min(PLACE_BYTES)],
-            tick,
+            tick: held.tick,
+            swallowing: held.swallowing,
         })
     })
 }
@@ -271,22 +286,64 @@ mod tests {
     fn a_place_says_what_it_was_made_of() {
         let mut random = Random::new(6);
         for _ in 0..2_000 {
-            let what = random.once_in(2).then(|| Held {
+            let mut what = random.once_in(2).then(|| Held {
                 len: random.byte(),
                 source: random.half(),
                 tick: random.half(),
+                swallowing: random.once_in(2),
             });
             assert_eq!(held(any_place(&mut random, what)), what);
+            // The library writes no length where there is none.
+            if let Some(what) = what.as_mut().filter(|what| what.swallowing) {
+                what.len = 0;
+            }
             assert_eq!(held(canonical(what)), what);
         }
-        let bytes = [0xFF, 72, 0x34, 0x12, 1, 2, 3, 4];
-        let what = Held {
+    }
+
+    #[test]
+    fn the_bytes_of_a_place_are_these() {
+        let bytes = [0xFF, 72, 0x34, 0x12, 1, 2, 0, 4];
+        let mut what = Held {
             len: 72,
             source: 0x1234,
             tick: 0x0201,
+            swallowing: false,
         };
         assert_eq!(held(bytes), Some(what));
         assert_eq!(canonical(Some(what)), [1, 72, 0x34, 0x12, 1, 2, 0, 0]);
+        what.swallowing = true;
+        assert_eq!(canonical(Some(what)), [1, 0, 0x34, 0x12, 1, 2, 1, 0]);
+        for swallowing in [1, 2, 0x80, 0xFF] {
+            let bytes = [2, 72, 0x34, 0x12, 1, 2, swallowing, 4];
+            assert_eq!(held(bytes), Some(what));
+            // A free place is nobody's.
+            assert_eq!(held([0, 72, 0x34, 0x12, 1, 2, swallowing, 4]), None);
+        }
+    }
+
+    #[test]
+    fn nothing_is_left_of_a_datagram_that_is_swallowed() {
+        let pool = [7; PLACE_BYTES * PLACES];
+        let mut places: Places = [0; PLACE_SIZE * PLACES];
+        set_place(&mut places, 1, [1, 2, 5, 0, 9, 0, 0, 3]);
+        set_place(&mut places, 6, [3, 200, 6, 0, 8, 0, 5, 3]);
+        let begun = Entry {
+            source: 5,
+            length: 2,
+            bytes: &[7, 7],
+            tick: 9,
+            swallowing: false,
+        };
+        let swallowed = Entry {
+            source: 6,
+            length: 0,
+            bytes: &[],
+            tick: 8,
+            swallowing: true,
+        };
+        let entries: Vec<Entry> = unfinished(&places, &pool).collect();
+        assert_eq!(entries, [begun, swallowed]);
     }
 
     #[test]
@@ -297,6 +354,7 @@ mod tests {
                 length: 0,
                 bytes: &[],
                 tick,
+                swallowing: false,
             };
             let unfinished = entry.for_model(time);
             assert_eq!(Entry::from(unfinished), entry);

@@ -8,8 +8,10 @@ pub mod faults;
 pub mod ffi;
 pub mod generate;
 pub mod guarded;
+pub mod joining;
 pub mod layout;
 pub mod lines;
+pub mod lost;
 #[cfg(test)]
 mod planted;
 pub mod random;

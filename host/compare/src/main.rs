@@ -1,6 +1,6 @@
 //! Holds the program that runs the library and the model on random input and compares them after
-//! every call: `compare [--seed N] [--calls N]`. Before that it compares them at every age of an
-//! unfinished datagram.
+//! every call: `compare [--seed N] [--calls N]`. Before that it compares them at every age of a
+//! held place.
 
 use std::env;
 use std::process::ExitCode;

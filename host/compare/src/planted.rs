@@ -1,6 +1,8 @@
 //! Holds differences that are planted in what the library does with ticks, one at a time. The
 //! comparison finds each of them, and nothing where there is none.
 
+mod swallowing;
+
 use crate::ages;
 use crate::ffi::tool::{Acknowledged, Composed, Joined, Rejection, Reply};
 use crate::ffi::{Numbers, Places, Pool, PLACES, PLACE_BYTES, PLACE_SIZE};
@@ -38,7 +40,7 @@ enum Fault {
     MiddleDoesNotRenew,
     FirstAtTick0,
     TickReversed,
-    UnusedBytesKept,
+    UnusedByteKept,
     // Of a lone tick alone.
     DropsNothing,
     Renews,
@@ -88,7 +90,7 @@ const FAULTS: [(Fault, At, &[&str]); 33] = [
     (Fault::FirstAtTick0, At::Frame, STATE),
     (Fault::TickReversed, At::Frame, STATE),
     (
-        Fault::UnusedBytesKept,
+        Fault::UnusedByteKept,
         At::Frame,
         &["a place that changed has other bytes than it should"],
     ),
@@ -234,11 +236,11 @@ impl Planted {
                 };
                 Some(Held { tick, ..held })
             }),
-            (Fault::UnusedBytesKept, (2, _)) => {
+            (Fault::UnusedByteKept, (2, _)) => {
                 for index in 0..PLACES {
                     if held(place(after, index)).is_some_and(|held| held.source == source) {
-                        let unused = PLACE_SIZE * index + 6..PLACE_SIZE * (index + 1);
-                        after[unused.clone()].copy_from_slice(&before[unused]);
+                        let unused = PLACE_SIZE * index + 7;
+                        after[unused] = before[unused];
                     }
                 }
             }
@@ -328,8 +330,20 @@ impl Handler for Planted {
     }
 }
 
-/// The tool's half is the library's.
-impl Archive for Planted {
+/// A board's half with a difference, and the library's for a tool.
+struct WithTool<'h, H>(&'h H);
+
+impl<H: Handler> Handler for WithTool<'_, H> {
+    fn handle_frame(&self, board: &Board, lent: &mut Lent, tick: u16, frame: &Incoming) -> Numbers {
+        self.0.handle_frame(board, lent, tick, frame)
+    }
+
+    fn handle_tick(&self, places: &mut Places, tick: u16) -> Numbers {
+        self.0.handle_tick(places, tick)
+    }
+}
+
+impl<H: Handler> Archive for WithTool<'_, H> {
     fn compose(&self, request: &Request, buffer: &mut Guarded) -> Composed {
         Library.compose(request, buffer)
     }
@@ -362,13 +376,14 @@ impl Archive for Planted {
 const WORLDS: u64 = 200;
 
 /// The report on a difference, if it is found in so many worlds.
-fn found(planted: &Planted, worlds: u64) -> Option<String> {
+fn found(planted: &impl Handler, worlds: u64) -> Option<String> {
+    let archive = WithTool(planted);
     let mut tally = Tally::default();
     for world in 0..worlds {
         let mut random = Random::new(world);
         let mut world = World::new(&mut random);
         while !world.is_over() {
-            if let Err(report) = world.call(planted, &mut random, &mut tally) {
+            if let Err(report) = world.call(&archive, &mut random, &mut tally) {
                 return Some(report);
             }
         }
@@ -383,22 +398,28 @@ fn nothing_is_found_where_nothing_is_planted() {
     }
 }
 
+/// Asserts that a difference in this call is found, and that the report says that one of these
+/// things is different.
+fn assert_found(planted: &impl Handler, at: At, differences: &[&str], name: &str) {
+    let report = found(planted, WORLDS).unwrap_or_default();
+    let begins = match at {
+        At::Frame => "call for a frame: ",
+        At::Tick => "lone tick: ",
+    };
+    let line = report
+        .lines()
+        .next()
+        .and_then(|line| line.strip_prefix(begins));
+    assert!(
+        line.is_some_and(|line| differences.contains(&line)),
+        "{name}, {at:?}: {report:?}"
+    );
+}
+
 #[test]
 fn each_difference_is_found() {
     for (fault, at, differences) in FAULTS {
-        let report = found(&Planted(fault, at), WORLDS).unwrap_or_default();
-        let begins = match at {
-            At::Frame => "call for a frame: ",
-            At::Tick => "lone tick: ",
-        };
-        let line = report
-            .lines()
-            .next()
-            .and_then(|line| line.strip_prefix(begins));
-        assert!(
-            line.is_some_and(|line| differences.contains(&line)),
-            "{fault:?}, {at:?}: {report:?}"
-        );
+        assert_found(&Planted(fault, at), at, differences, &format!("{fault:?}"));
     }
 }
 

@@ -4,11 +4,14 @@
 use std::fmt::Write;
 
 use crate::answer::Answer;
-use crate::faults::{is_damaged, Faults, Wrong};
-use crate::ffi::{self, Frame, Lock, Places, Pool, FRAME_SIZE, PLACES, PLACE_BYTES, SENT_SIZE};
+use crate::faults::{has_long_swallowed, is_damaged, Damage, Faults, Wrong};
+use crate::ffi::{
+    self, Frame, Lock, Places, Pool, FRAME_SIZE, PLACES, PLACE_BYTES, PLACE_SIZE, SENT_SIZE,
+};
 use crate::generate::{damage_places, rewrite_places, spoil_board, Board, Incoming};
 use crate::guarded::Guarded;
-use crate::layout::{self, Entry, TableKind};
+use crate::joining;
+use crate::layout::{self, Entry, Held, TableKind};
 use crate::random::Random;
 use crate::tally::{By, Case, Tally};
 use crate::times::{any_due, count_old, is_due, Call, Clock, Pasts};
@@ -179,8 +182,8 @@ pub struct Setup {
 }
 
 /// A reception state of the library as one of the model at this time: what the places that are held
-/// hold. A damaged state goes to the model in the order of the places too: twins then need not
-/// stand side by side.
+/// are held for. A damaged state goes to the model in the order of the places too: twins then need
+/// not stand side by side.
 ///
 /// # Panics
 ///
@@ -193,7 +196,7 @@ pub fn for_model(places: &Places, pool: &Pool, time: u64) -> Reception {
     Reception::from_unfinished(&entries).expect("eight places")
 }
 
-/// Unfinished datagrams in an order that does not depend on places.
+/// What is unfinished in an order that does not depend on places.
 pub(crate) fn in_order<'p>(entries: impl Iterator<Item = Entry<'p>>) -> Vec<Entry<'p>> {
     let mut entries: Vec<_> = entries.collect();
     entries.sort_unstable();
@@ -256,6 +259,13 @@ impl Setup {
         self.model.reception = for_model(places, self.library.pool.array(), clock.time());
         self.clock = clock;
         self.pasts = None;
+    }
+
+    /// Puts other places and another time, at which what these places are held for is as a call
+    /// leaves it.
+    pub fn begin_anew(&mut self, places: &Places, clock: Clock) {
+        self.set_places(places, clock);
+        self.pasts = Some(Pasts::default());
     }
 
     /// The board.
@@ -324,7 +334,7 @@ impl Setup {
         self
     }
 
-    /// Writes other bytes into the places, which hold the same by them.
+    /// Writes other bytes into the places, which are held for the same by them.
     pub fn rewrite_places(&mut self, random: &mut Random) {
         rewrite_places(random, self.library.places.array_mut());
     }
@@ -336,7 +346,7 @@ impl Setup {
             0x1D => {
                 let source = frame.header & 0xFFF;
                 layout::unfinished(self.library.places.array(), self.library.pool.bytes())
-                    .find(|entry| u32::from(entry.source) == source)
+                    .find(|entry| u32::from(entry.source) == source && !entry.swallowing)
                     .map(|entry| [entry.bytes, &frame.data].concat())
             }
             _ => None,
@@ -448,6 +458,7 @@ impl Setup {
                 )?;
                 tally.count(Case::TickB7);
                 tally.count_if(due, Case::TickB7Due);
+                tally.damaged(&Damage::of(&before.places), false);
             }
             Answer::Nothing => {
                 same(!damaged, "a damaged state is not refused")?;
@@ -457,16 +468,19 @@ impl Setup {
                     (&before.places, pool),
                     (library.places.array(), pool),
                     self.clock.tick(),
-                    0,
+                    Changes::Nothing,
                     |case| tally.count(case),
                 )?;
                 tally.count(Case::Tick);
-                tally.count_if(self.faults.refusal().is_some(), Case::TickBadBoard);
-                tally.count_if(
-                    (1..72).contains(&library.reply.bytes().len()),
-                    Case::TickShort,
-                );
-                self.count_times(answer, None, tally);
+                let short = (1..72).contains(&library.reply.bytes().len());
+                for (is, case) in [
+                    (self.faults.refusal().is_some(), Case::TickBadBoard),
+                    (short, Case::TickShort),
+                    (has_long_swallowed(&before.places), Case::TickLongSwallowed),
+                ] {
+                    tally.count_if(is, case);
+                }
+                self.count_call(answer, None, tally)?;
             }
             _ => return Err("a lone tick has no such answer"),
         }
@@ -521,7 +535,7 @@ impl Setup {
                 (&before.places, &before.pool),
                 (library.places.array(), library.pool.array()),
                 self.clock.tick(),
-                usize::from(done.answer != Answer::Ignored),
+                Changes::by(done.answer),
                 |case| tally.count(case),
             )?;
         }
@@ -631,8 +645,14 @@ impl Setup {
         }
     }
 
-    /// Counts what was reached of times in a call that is not refused.
-    fn count_times(&mut self, answer: Answer, frame: Option<&Incoming>, tally: &mut Tally) {
+    /// Counts what was reached of times, and of the rules for a frame, in a call that is not
+    /// refused; and tests of the library alone that the rule for the frame is kept.
+    fn count_call(
+        &mut self,
+        answer: Answer,
+        frame: Option<&Incoming>,
+        tally: &mut Tally,
+    ) -> Result<(), &'static str> {
         let call = Call {
             clock: self.clock,
             before: &self.before.places,
@@ -644,6 +664,7 @@ impl Setup {
             Some(pasts) => pasts.count(&call, tally),
             None => count_old(&call, tally),
         }
+        joining::check(&call, tally)
     }
 
     /// Counts what was reached.
@@ -653,10 +674,15 @@ impl Setup {
             let due = done.by == By::Frames && any_due(&self.before.places, self.clock.tick());
             tally.count_if(due && number != 7, Case::RefusedDue);
             tally.count_if(due && number == 7, Case::B7Due);
+            if number == 7 {
+                tally.damaged(&Damage::of(&self.before.places), true);
+            }
         } else {
             tally.table(done.by, self.table_kind);
             if done.by == By::Frames {
-                self.count_times(done.answer, done.frame, tally);
+                let long = has_long_swallowed(&self.before.places);
+                tally.count_if(long, Case::LongSwallowed);
+                self.count_call(done.answer, done.frame, tally)?;
             }
         }
         if done.is_last() && done.answer.is_of_datagram() {
@@ -807,28 +833,53 @@ fn compare_memory(answer: Answer, before: &mut Before, library: &Lent) -> Result
     Ok(())
 }
 
+/// What a call may change of a reception state, beside the places with something due.
+#[derive(Clone, Copy, Debug, PartialEq, Eq)]
+pub(crate) enum Changes {
+    /// Nothing: there is no frame, or it is ignored.
+    Nothing,
+    /// One place, but not the pool: the frame is refused.
+    Place,
+    /// One place, and its bytes in the pool.
+    PlaceAndPool,
+}
+
+impl Changes {
+    /// By a frame with this answer.
+    const fn by(answer: Answer) -> Self {
+        match answer {
+            Answer::Ignored => Self::Nothing,
+            Answer::TransportRefusal(_) => Self::Place,
+            _ => Self::PlaceAndPool,
+        }
+    }
+}
+
 /// The places after a call that brought this tick and is not refused. First every place with
 /// something due is free and all zero. Then the frame, if there is one that is not ignored, changes
-/// at most one place, and that one has the canonical bytes of what it holds, with this tick. Every
-/// other place keeps all its bytes; and where the frame changes no place, the pool is as it was.
+/// at most one place, and that one has the canonical bytes of what it is held for. Every other place
+/// keeps all its bytes, and the pool is as it was but for the frame's own data.
 pub(crate) fn compare_places(
     before: (&Places, &Pool),
     after: (&Places, &Pool),
     tick: u16,
-    most_changed: usize,
+    changes: Changes,
     mut count: impl FnMut(Case),
 ) -> Result<(), &'static str> {
     let mut changed = 0;
     for index in 0..PLACES {
         let old = layout::place(before.0, index);
         let new = layout::place(after.0, index);
+        let pools = [before.1, after.1].map(|pool| pool_of(pool, index));
         let (was, is) = (layout::held(old), layout::held(new));
-        let dropped = was.is_some_and(|held| is_due(held, tick));
+        let stays = was.filter(|&held| !is_due(held, tick));
+        let dropped = stays != was;
         same(
             !dropped || is != was,
             "a place with something due is not dropped",
         )?;
-        if is == was.filter(|_| !dropped) {
+        let odd = old != layout::canonical(was);
+        if is == stays {
             if dropped {
                 same(
                     new == layout::canonical(None),
@@ -838,40 +889,104 @@ pub(crate) fn compare_places(
                 same(old == new, "a place that did not change has other bytes")?;
             }
             same(
-                pool_of(before.1, index) == pool_of(after.1, index),
+                pools[0] == pools[1],
                 "the pool is changed for a place that did not change",
             )?;
-            if old != layout::canonical(was) {
-                count(match was {
-                    Some(_) if dropped => Case::PlaceDropped,
-                    Some(_) => Case::HeldKept,
-                    None => Case::FreeKept,
-                });
+            if odd {
+                count(case_of_kept(was, dropped));
             }
             continue;
         }
         changed += 1;
+        compare_changed(stays, is, new, tick)?;
+        let [start, end] = match changes {
+            Changes::PlaceAndPool => data_in_pool(stays, is),
+            _ => [0, 0],
+        };
         same(
-            new == layout::canonical(is),
-            "a place that changed has other bytes than it should",
+            pools[0][..start] == pools[1][..start] && pools[0][end..] == pools[1][end..],
+            "the pool is changed, and not by what the frame puts there",
         )?;
-        same(
-            is.is_none_or(|held| held.tick == tick),
-            "a place that changed has another tick than the call",
-        )?;
-        if old != layout::canonical(was) {
-            count(match (was, is) {
-                (None, _) => Case::PlaceOpened,
-                (Some(_), Some(_)) if dropped => Case::PlaceOpened,
-                (Some(_), Some(_)) => Case::PlaceAppended,
-                (Some(_), None) => Case::PlaceFreed,
-            });
+        if odd {
+            count(case_of_changed(stays, is));
         }
     }
     same(
-        changed <= most_changed,
+        changed <= usize::from(changes != Changes::Nothing),
         "more places changed than the frame may change",
     )
+}
+
+/// A place that a frame has changed: its bytes, which are those of what it is held for, and its tick.
+/// That is the frame's own where the frame is accepted, and stays where it is refused and the source
+/// is being swallowed from now on.
+fn compare_changed(
+    was: Option<Held>,
+    is: Option<Held>,
+    new: [u8; PLACE_SIZE],
+    tick: u16,
+) -> Result<(), &'static str> {
+    same(
+        new == layout::canonical(is),
+        "a place that changed has other bytes than it should",
+    )?;
+    let Some(is) = is else {
+        return Ok(());
+    };
+    match was {
+        None if is.swallowing => Err("a place that was free is swallowed"),
+        Some(was) if is.swallowing && !was.swallowing => same(
+            is.tick == was.tick,
+            "a refused frame has changed the tick of its place",
+        ),
+        _ => same(
+            is.tick == tick,
+            "a place that changed has another tick than the call",
+        ),
+    }
+}
+
+/// Where the data of an accepted frame go that has changed a place from the one to the other: from
+/// which byte of the place on, and up to which. Of a Last that finishes a datagram it is not known
+/// how many there are.
+fn data_in_pool(was: Option<Held>, is: Option<Held>) -> [usize; 2] {
+    let begun = |held: Option<Held>| held.filter(|held| !held.swallowing);
+    let had = begun(was).map(|was| usize::from(was.len));
+    match (had, begun(is)) {
+        (had, Some(is)) => {
+            let end = usize::from(is.len).min(PLACE_BYTES);
+            [had.unwrap_or(0).min(end), end]
+        }
+        (Some(had), None) => [had.min(PLACE_BYTES), PLACE_BYTES.min(had + 8)],
+        (None, None) => [0, 0],
+    }
+}
+
+/// The case of a place with other bytes than the library writes that no frame has changed.
+const fn case_of_kept(was: Option<Held>, dropped: bool) -> Case {
+    match was {
+        Some(_) if dropped => Case::PlaceDropped,
+        Some(held) if held.swallowing => Case::SwallowedKept,
+        Some(_) => Case::HeldKept,
+        None => Case::FreeKept,
+    }
+}
+
+/// The case of a place with other bytes than the library writes that a frame has changed.
+const fn case_of_changed(was: Option<Held>, is: Option<Held>) -> Case {
+    let (Some(was), Some(is)) = (was, is) else {
+        return match was {
+            None => Case::PlaceOpened,
+            Some(was) if was.swallowing => Case::SwallowedFreed,
+            Some(_) => Case::PlaceFreed,
+        };
+    };
+    match (was.swallowing, is.swallowing) {
+        (false, false) => Case::PlaceAppended,
+        (false, true) => Case::PlaceBroken,
+        (true, true) => Case::PlaceSwallowed,
+        (true, false) => Case::PlaceReopened,
+    }
 }
 
 /// The bytes of the pool for a place.

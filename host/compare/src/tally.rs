@@ -2,7 +2,7 @@
 //! nothing about it, so that a count of zero is a failure.
 
 use crate::answer::Answer;
-use crate::faults::{limit_number, Faults, Wrong, LIMITS};
+use crate::faults::{limit_number, Damage, Faults, Wrong, LIMITS};
 use crate::ffi::MOST_SPACES;
 use crate::generate::COMMANDS;
 use crate::layout::TableKind;
@@ -108,8 +108,8 @@ cases! {
     Everything = "limit, space, buffer and state", Frames;
     /// Ignored.
     Ignored = "ignored", Frames;
-    /// Joined and not answered.
-    Nothing = "nothing (joined)", Frames;
+    /// Joined or swallowed, and not answered.
+    Nothing = "nothing (joined or swallowed)", Frames;
     /// Out of order.
     OutOfOrder = "0x2040 transport refusal", Frames;
     /// Too long.
@@ -180,14 +180,67 @@ cases! {
     PlaceOpened = "place opened, over other bytes", Small;
     /// A place that was held with other bytes than the library writes, appended to.
     PlaceAppended = "place appended to, over other bytes", Small;
-    /// A place that was held with other bytes than the library writes, finished or refused.
+    /// A place that was held with other bytes than the library writes, finished or refused by a
+    /// Last.
     PlaceFreed = "place freed, over other bytes", Small;
+    /// The same with a datagram that is broken: its source is being swallowed.
+    PlaceBroken = "place broken, over other bytes", Small;
+    /// The same with a source that is being swallowed, by a Middle.
+    PlaceSwallowed = "place swallowed on, over other bytes", Small;
+    /// The same by a First.
+    PlaceReopened = "place reopened, over other bytes", Small;
+    /// The same by a Single or a Last.
+    SwallowedFreed = "swallowed place freed, other bytes", Small;
     /// A place that was held with other bytes than the library writes, dropped by a tick.
     PlaceDropped = "place dropped, over other bytes", Small;
     /// A place that is held with other bytes than the library writes, and keeps them.
     HeldKept = "place held, other bytes kept", Small;
+    /// The same with a source that is being swallowed.
+    SwallowedKept = "swallowed place, other bytes kept", Small;
+    /// The same by a Middle that is swallowed at the very tick that the place has.
+    SwallowedInPlace = "Middle swallowed, other bytes kept", Small;
     /// A place that is free with other bytes than zeros, and keeps them.
     FreeKept = "place free, other bytes kept", Small;
+    /// A Single of a source for which nothing is kept.
+    SingleAlone = "Single, nothing kept", Small;
+    /// A First of such a source.
+    FirstOpens = "First, nothing kept", Small;
+    /// A First of such a source while eight others have a place.
+    FirstWithoutRoom = "First, nothing kept and no room", Small;
+    /// The same, and one of the eight is being swallowed.
+    NoRoomBesideSwallowed = "First, no room beside a swallowed", Small;
+    /// A Middle of a source for which nothing is kept.
+    StrayMiddle = "Middle, nothing kept", Small;
+    /// A Last of such a source.
+    StrayLast = "Last, nothing kept", Small;
+    /// A Middle that is joined.
+    MiddleAppends = "Middle, joined", Small;
+    /// A Last that finishes a datagram.
+    LastFinishes = "Last, finishes a datagram", Small;
+    /// A Last that is refused, after which nothing is kept.
+    LastTooLong = "Last past 72 bytes, place freed", Small;
+    /// A Single that breaks a datagram: its source is being swallowed.
+    BrokenBySingle = "broken by a Single", Small;
+    /// A First that does.
+    BrokenByFirst = "broken by a First", Small;
+    /// An empty Middle that does.
+    BrokenByEmptyMiddle = "broken by an empty Middle", Small;
+    /// A Middle past 72 bytes that does.
+    BrokenByLongMiddle = "broken by a Middle past 72 bytes", Small;
+    /// A Middle that is swallowed.
+    MiddleSwallowed = "Middle swallowed", Small;
+    /// One without a byte.
+    EmptyMiddleSwallowed = "empty Middle swallowed", Small;
+    /// The Last up to which Middles are.
+    LastSwallowed = "Last swallowed, place freed", Small;
+    /// A Single of a source that is being swallowed.
+    SingleAfterBroken = "Single, its source was swallowed", Small;
+    /// A First of such a source.
+    FirstAfterBroken = "First, its source was swallowed", Small;
+    /// The same where all eight places are taken, its own among them.
+    FirstAfterBrokenFull = "the same, all eight places taken", Small;
+    /// A session of tools whose frames are lost.
+    LostSession = "session, frames lost on the way", Small;
     /// One was dropped before a frame that is not ignored.
     DroppedByFrame = "dropped, at a frame", Small;
     /// One was dropped before a frame that is ignored.
@@ -226,6 +279,20 @@ cases! {
     IgnoredSince = "dropped, its source ignored since", Small;
     /// One was dropped that a refused frame of another would have kept if that renewed.
     RefusedSince = "dropped, another refused since", Small;
+    /// One whose source is being swallowed was dropped before a frame that is not ignored.
+    SwallowedDroppedByFrame = "swallowed, dropped at a frame", Small;
+    /// The same before a frame that is ignored.
+    SwallowedDroppedByIgnored = "swallowed, dropped at an ignored", Small;
+    /// The same at a lone tick.
+    SwallowedDroppedByTick = "swallowed, dropped at a lone tick", Small;
+    /// The greatest age that stays, of a source that is being swallowed.
+    SwallowedKept3000 = "swallowed, 3,000 back, kept", Small;
+    /// The least age that does not.
+    SwallowedDropped3001 = "swallowed, 3,001 back, dropped", Small;
+    /// One was kept longer than its refusal alone would have kept it.
+    SwallowedRenewed = "kept over 3,000 after its refusal", Small;
+    /// One was dropped that its own refusal would have kept if that renewed.
+    BrokenSince = "dropped, its own refused since", Small;
     /// A Single that counted as if nothing were unfinished.
     SingleAfterDrop = "Single, its source's was dropped", Small;
     /// A First that did.
@@ -244,6 +311,16 @@ cases! {
     RefusedDue = "refused, what is due stays", Small;
     /// B7 of a frame, with something that was due and stays.
     B7Due = "B7, what is due stays", Small;
+    /// B7 for nothing but a source over 4,095 that is being swallowed.
+    B7Wide = "B7, a swallowed source over 4,095", Small;
+    /// B7 for nothing but a datagram of a source that is being swallowed in a place behind it.
+    B7SwallowedBehind = "B7, swallowed behind its datagram", Small;
+    /// B7 for nothing but the same with the places the other way round.
+    B7SwallowedBefore = "B7, swallowed before its datagram", Small;
+    /// B7 for nothing but a source that is being swallowed twice.
+    B7TwiceSwallowed = "B7, source swallowed twice", Small;
+    /// A frame that is not refused, with a length over 72 where a source is being swallowed.
+    LongSwallowed = "no B7, a swallowed length over 72", Small;
     /// A frame on places with ages of any kind.
     OldFrame = "any age, frame", Small;
     /// A lone tick on such places.
@@ -264,6 +341,16 @@ cases! {
     TickB7 = "lone tick, B7 refused", Small;
     /// A lone tick that is refused, with something that was due and stays.
     TickB7Due = "lone tick, B7, what is due stays", Small;
+    /// A lone tick that is refused for nothing but a source over 4,095 that is being swallowed.
+    TickB7Wide = "tick B7, swallowed source over 4,095", Small;
+    /// The same for a datagram of a source that is being swallowed in a place behind it.
+    TickB7SwallowedBehind = "tick B7, swallowed behind datagram", Small;
+    /// The same with the places the other way round.
+    TickB7SwallowedBefore = "tick B7, swallowed before datagram", Small;
+    /// The same for a source that is being swallowed twice.
+    TickB7TwiceSwallowed = "tick B7, source swallowed twice", Small;
+    /// A lone tick that is not refused, with a length over 72 where a source is being swallowed.
+    TickLongSwallowed = "tick, a swallowed length over 72", Small;
     /// A lone tick for a board that a frame is refused for, which it is not asked for.
     TickBadBoard = "lone tick, the board is bad", Small;
     /// A lone tick where a frame had a buffer that is too short, which it is not asked for.
@@ -441,6 +528,35 @@ impl Tally {
             (all, Case::Everything),
         ] {
             self.cases[by][case as usize] += u64::from(is);
+        }
+    }
+
+    /// Counts what B7 refuses where it is one thing alone and of a source that is being swallowed;
+    /// at a frame, or else at a lone tick.
+    pub fn damaged(&mut self, damage: &Damage, at_a_frame: bool) {
+        let cases = if at_a_frame {
+            [
+                Case::B7Wide,
+                Case::B7SwallowedBehind,
+                Case::B7SwallowedBefore,
+                Case::B7TwiceSwallowed,
+            ]
+        } else {
+            [
+                Case::TickB7Wide,
+                Case::TickB7SwallowedBehind,
+                Case::TickB7SwallowedBefore,
+                Case::TickB7TwiceSwallowed,
+            ]
+        };
+        let what = [
+            damage.wide_swallowed,
+            damage.swallowed_behind,
+            damage.swallowed_before,
+            damage.twice_swallowed,
+        ];
+        for (is, case) in what.into_iter().zip(cases) {
+            self.count_if(is && damage.is_single(), case);
         }
     }
 

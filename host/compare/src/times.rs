@@ -1,6 +1,7 @@
 //! Holds what change request C-14 says of ticks, by the bytes of the places alone and shared with
 //! neither side: how old what a place holds is, and whether it is due. Also the time of a world,
-//! which is the full count of ticks, and the counts of what is to be seen of times.
+//! which is the full count of ticks, and the counts of what is to be seen of times. A place whose
+//! source is being swallowed (C-15) grows old like any other.
 
 use crate::answer::Answer;
 use crate::ffi::{Places, PLACES};
@@ -60,9 +61,16 @@ impl Clock {
 
     /// The clock of a world, fast or slow.
     pub fn new(random: &mut Random) -> Self {
+        let pace = random.pick(&[1, 4, 20, 60, 200, 400]);
+        Self::paced(start(random), pace)
+    }
+
+    /// A clock that has this time, and lets more than a few ticks pass once in so many times.
+    #[must_use]
+    pub const fn paced(time: u64, pace: usize) -> Self {
         Self {
-            pace: random.pick(&[1, 4, 20, 60, 200, 400]),
-            ..Self::at(start(random))
+            pace,
+            ..Self::at(time)
         }
     }
 
@@ -179,11 +187,13 @@ pub fn count_old(call: &Call, tally: &mut Tally) {
     }
 }
 
-/// What is known of what a place holds beside the place itself.
+/// What is known of what a place is held for beside the place itself.
 #[derive(Clone, Copy, Debug, Default)]
 struct Past {
     /// When its First came, if that was seen.
     opened: Option<u64>,
+    /// When the refusal came since which its source is being swallowed, if that was seen.
+    broken: Option<u64>,
     /// When a frame of its source was ignored, if one was since its last accepted one.
     ignored: Option<u64>,
     /// When a frame of another source got a transport refusal, if one did since then.
@@ -214,6 +224,8 @@ struct Cases {
     dropped: Case,
     kept_3000: Case,
     dropped_3001: Case,
+    /// A place whose source is being swallowed was dropped.
+    swallowed: Case,
 }
 
 impl Call<'_> {
@@ -223,68 +235,103 @@ impl Call<'_> {
                 dropped: Case::DroppedByTick,
                 kept_3000: Case::Kept3000ByTick,
                 dropped_3001: Case::Dropped3001ByTick,
+                swallowed: Case::SwallowedDroppedByTick,
             },
             (Some(_), Answer::Ignored) => Cases {
                 dropped: Case::DroppedByIgnored,
                 kept_3000: Case::Kept3000ByIgnored,
                 dropped_3001: Case::Dropped3001ByIgnored,
+                swallowed: Case::SwallowedDroppedByIgnored,
             },
             (Some(_), _) => Cases {
                 dropped: Case::DroppedByFrame,
                 kept_3000: Case::Kept3000ByFrame,
                 dropped_3001: Case::Dropped3001ByFrame,
+                swallowed: Case::SwallowedDroppedByFrame,
             },
         }
     }
 
     /// Whether there is a frame and its source is this one, whatever else its header says.
-    fn is_of(&self, source: u16) -> bool {
+    #[must_use]
+    pub fn is_of(&self, source: u16) -> bool {
         self.frame
             .is_some_and(|frame| frame.header & 0xFFF == u32::from(source))
+    }
+
+    /// Whether something is known to have been, and not so long ago that it would be dropped.
+    fn is_recent(&self, since: Option<u64>) -> bool {
+        since.is_some_and(|since| self.clock.time() - since <= u64::from(GREATEST_AGE))
+    }
+
+    /// Whether something is known to have been so long ago that it would be dropped.
+    fn is_old(&self, since: Option<u64>) -> bool {
+        since.is_some() && !self.is_recent(since)
+    }
+
+    /// Whether the time is one that 32 bits do not hold.
+    const fn is_late(&self) -> bool {
+        self.clock.time() > u32::MAX as u64
+    }
+
+    /// Counts what is to be seen of a place that stays.
+    fn count_kept(&self, held: Held, past: &Past, tally: &mut Tally) {
+        let (tick, swallowed) = (self.clock.tick(), held.swallowing);
+        let edge = age(held, tick) == 3_000;
+        for (is, case) in [
+            (edge, self.cases().kept_3000),
+            (held.tick > tick, Case::RoundKept),
+            (self.is_late(), Case::LateKept),
+            (self.is_old(past.opened), Case::Renewed),
+            (edge && swallowed, Case::SwallowedKept3000),
+            (self.is_old(past.broken), Case::SwallowedRenewed),
+        ] {
+            tally.count_if(is, case);
+        }
+    }
+
+    /// Counts what is to be seen of a place that is dropped.
+    fn count_dropped(&self, held: Held, past: &Past, tally: &mut Tally) {
+        let (tick, swallowed) = (self.clock.tick(), held.swallowing);
+        let edge = age(held, tick) == 3_001;
+        let cases = self.cases();
+        for (is, case) in [
+            (true, cases.dropped),
+            (edge, cases.dropped_3001),
+            (held.tick > tick, Case::RoundDropped),
+            (self.is_late(), Case::LateDropped),
+            (self.is_recent(past.ignored), Case::IgnoredSince),
+            (self.is_recent(past.refused), Case::RefusedSince),
+            (swallowed, cases.swallowed),
+            (edge && swallowed, Case::SwallowedDropped3001),
+            (self.is_recent(past.broken), Case::BrokenSince),
+        ] {
+            tally.count_if(is, case);
+        }
     }
 }
 
 impl Pasts {
     /// Counts what is to be seen of times in a call, and notes what is to be known of it later.
     pub fn count(&mut self, call: &Call, tally: &mut Tally) {
-        let (time, tick) = (call.clock.time(), call.clock.tick());
-        let late = time > u64::from(u32::MAX);
-        let cases = call.cases();
-        let within =
-            |since: Option<u64>| since.is_some_and(|since| time - since <= u64::from(GREATEST_AGE));
+        let tick = call.clock.tick();
         let (mut kept, mut dropped) = (0, 0);
-        let (mut at_3000, mut at_3001, mut own_dropped) = (false, false, false);
+        let (mut at_3000, mut at_3001) = (false, false);
+        let (mut own_kept, mut own_dropped) = (false, false);
         for (index, past) in self.0.iter().enumerate() {
             let Some(held) = held(place(call.before, index)) else {
                 continue;
             };
-            let (age, round) = (age(held, tick), held.tick > tick);
-            if age <= GREATEST_AGE {
-                kept += 1;
-                at_3000 |= age == 3_000;
-                let renewed = past.opened.is_some() && !within(past.opened);
-                for (is, case) in [
-                    (age == 3_000, cases.kept_3000),
-                    (round, Case::RoundKept),
-                    (late, Case::LateKept),
-                    (renewed, Case::Renewed),
-                ] {
-                    tally.count_if(is, case);
-                }
-            } else {
+            if is_due(held, tick) {
                 dropped += 1;
-                at_3001 |= age == 3_001;
+                at_3001 |= age(held, tick) == 3_001;
                 own_dropped |= call.is_of(held.source);
-                for (is, case) in [
-                    (true, cases.dropped),
-                    (age == 3_001, cases.dropped_3001),
-                    (round, Case::RoundDropped),
-                    (late, Case::LateDropped),
-                    (within(past.ignored), Case::IgnoredSince),
-                    (within(past.refused), Case::RefusedSince),
-                ] {
-                    tally.count_if(is, case);
-                }
+                call.count_dropped(held, past, tally);
+            } else {
+                kept += 1;
+                at_3000 |= age(held, tick) == 3_000;
+                own_kept |= call.is_of(held.source);
+                call.count_kept(held, past, tally);
             }
         }
         for (is, case) in [
@@ -296,7 +343,7 @@ impl Pasts {
         ] {
             tally.count_if(is, case);
         }
-        let full = dropped != 0 && kept + dropped == PLACES;
+        let full = dropped != 0 && kept + dropped == PLACES && !own_kept;
         count_frame(call, own_dropped, full, tally);
         self.note(call);
     }
@@ -318,18 +365,41 @@ impl Pasts {
                 }
                 continue;
             }
-            // A First; or a Middle, before which the tick has dropped nothing.
-            let continued = was.is_some_and(|was| !is_due(was, call.clock.tick()));
-            *past = Past {
-                opened: if continued { past.opened } else { Some(time) },
-                ..Past::default()
-            };
+            let was = was.filter(|&was| !is_due(was, call.clock.tick()));
+            past.note_change(was.map(|was| was.swallowing), is.swallowing, time);
         }
     }
 }
 
-/// Counts what is to be seen of a frame before which the datagram of its own source was dropped, or
-/// one of eight.
+impl Past {
+    /// Notes that a frame has changed what a place is held for, of which it is told whether the
+    /// source is being swallowed: before, if the place was held and not dropped, and afterwards.
+    const fn note_change(&mut self, was: Option<bool>, is: bool, time: u64) {
+        let accepted = Self {
+            ignored: None,
+            refused: None,
+            ..*self
+        };
+        *self = match (was, is) {
+            // A refused frame, which is no accepted one.
+            (Some(false), true) => Self {
+                broken: Some(time),
+                ..*self
+            },
+            // A Middle, joined or swallowed.
+            (Some(false), false) | (Some(true), true) => accepted,
+            // A First.
+            _ => Self {
+                opened: Some(time),
+                broken: None,
+                ..accepted
+            },
+        };
+    }
+}
+
+/// Counts what is to be seen of a frame before which the place of its own source was dropped, or
+/// one of eight, of which none was its own and stayed.
 fn count_frame(call: &Call, own_dropped: bool, full: bool, tally: &mut Tally) {
     let kind = call.frame.map_or(0, |frame| frame.header >> 24);
     let (joined, stray) = (
@@ -361,6 +431,7 @@ mod tests {
             len: 0,
             source: 1,
             tick,
+            swallowing: false,
         }
     }
 
@@ -384,49 +455,75 @@ mod tests {
         assert!(!any_due(&places, 3_000));
     }
 
-    /// Places whose first ones hold something of sources 1, 2 and so on, with these lengths and
-    /// ticks.
+    /// In the place of a length: the source is being swallowed.
+    const SWALLOWED: u8 = 255;
+
+    /// Places whose first ones are held for sources 1, 2 and so on, with these lengths and ticks.
     fn places(what: &[(u8, u16)]) -> Places {
         let mut places = [0; PLACES_SIZE];
         for (index, &(len, tick)) in what.iter().enumerate() {
-            let source = index as u16 + 1;
-            set_place(
-                &mut places,
-                index,
-                canonical(Some(Held { len, source, tick })),
-            );
+            let held = Held {
+                len,
+                source: index as u16 + 1,
+                tick,
+                swallowing: len == SWALLOWED,
+            };
+            set_place(&mut places, index, canonical(Some(held)));
         }
         places
     }
 
-    #[test]
-    fn what_is_to_be_seen_of_times() {
-        let (mut pasts, mut tally) = (Pasts::default(), Tally::default());
-        let mut clock = Clock::at(0);
-        let mut now: Places = [0; PLACES_SIZE];
-        // At this time, with this header or none, these are unfinished afterwards.
-        let mut at = |time, header: Option<u32>, answer, what: &[(u8, u16)]| {
-            clock.time = time;
+    /// A history: the places as the calls leave them, and what is counted at each.
+    struct History {
+        clock: Clock,
+        now: Places,
+        pasts: Pasts,
+    }
+
+    impl History {
+        fn new() -> Self {
+            Self {
+                clock: Clock::at(0),
+                now: [0; PLACES_SIZE],
+                pasts: Pasts::default(),
+            }
+        }
+
+        /// What is counted at this time, with this header or none, where these are held afterwards.
+        fn at(
+            &mut self,
+            time: u64,
+            header: Option<u32>,
+            answer: Answer,
+            what: &[(u8, u16)],
+        ) -> Vec<Case> {
+            self.clock.time = time;
             let after = places(what);
             let frame = header.map(|header| Incoming {
                 header,
                 data: vec![0],
             });
             let call = Call {
-                clock,
-                before: &now,
+                clock: self.clock,
+                before: &self.now,
                 after: &after,
                 answer,
                 frame: frame.as_ref(),
             };
-            pasts.count(&call, &mut tally);
-            clock.brought(false);
-            now = after;
-            let counted = Case::of_times().filter(|&case| tally.counted(case) != 0);
-            let counted: Vec<Case> = counted.collect();
-            tally = Tally::default();
-            counted
-        };
+            let mut tally = Tally::default();
+            self.pasts.count(&call, &mut tally);
+            self.clock.brought(false);
+            self.now = after;
+            Case::of_times()
+                .filter(|&case| tally.counted(case) != 0)
+                .collect()
+        }
+    }
+
+    #[test]
+    fn what_is_to_be_seen_of_times() {
+        let mut history = History::new();
+        let mut at = |time, header, answer, what: &[_]| history.at(time, header, answer, what);
         let (joined, refused) = (Answer::Nothing, Answer::TransportRefusal(0x2040));
         let [first, middle] = [0x1B22_B001, 0x1C22_B001].map(Some);
         let round = 65_536;
@@ -477,6 +574,44 @@ mod tests {
             Case::LongestGap,
         ];
         assert_eq!(seen, expected);
+    }
+
+    #[test]
+    fn what_is_to_be_seen_of_times_while_a_source_is_swallowed() {
+        let mut history = History::new();
+        let mut at = |time, header, answer, what: &[_]| history.at(time, header, answer, what);
+        let (joined, refused) = (Answer::Nothing, Answer::TransportRefusal(0x2040));
+        let [first, middle] = [0x1B22_B001, 0x1C22_B001].map(Some);
+        // The refusal does not renew: the tick is that of the First.
+        assert_eq!(at(100, first, joined, &[(1, 100)]), []);
+        assert_eq!(at(2_000, first, refused, &[(SWALLOWED, 100)]), []);
+        let seen = at(3_100, None, joined, &[(SWALLOWED, 100)]);
+        assert_eq!(seen, [Case::Kept3000ByTick, Case::SwallowedKept3000]);
+        let seen = at(3_101, None, joined, &[]);
+        let expected = [
+            Case::DroppedByTick,
+            Case::Dropped3001ByTick,
+            Case::SwallowedDroppedByTick,
+            Case::SwallowedDropped3001,
+            Case::BrokenSince,
+        ];
+        assert_eq!(seen, expected);
+        // A Middle that is swallowed does.
+        assert_eq!(at(10_000, first, joined, &[(1, 10_000)]), []);
+        assert_eq!(at(10_001, middle, refused, &[(SWALLOWED, 10_000)]), []);
+        assert_eq!(at(12_999, middle, joined, &[(SWALLOWED, 12_999)]), []);
+        let seen = at(13_002, None, joined, &[(SWALLOWED, 12_999)]);
+        assert_eq!(seen, [Case::Renewed, Case::SwallowedRenewed]);
+        // A First opens a datagram anew.
+        let seen = at(13_003, first, joined, &[(1, 13_003)]);
+        assert_eq!(seen, [Case::Renewed, Case::SwallowedRenewed]);
+        assert_eq!(
+            at(16_003, None, joined, &[(1, 13_003)]),
+            [Case::Kept3000ByTick]
+        );
+        let ignored = Answer::Ignored;
+        let seen = at(20_000, middle.map(|header| header ^ 0x1000), ignored, &[]);
+        assert_eq!(seen, [Case::DroppedByIgnored]);
     }
 
     #[test]

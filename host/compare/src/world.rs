@@ -1,10 +1,11 @@
 //! Holds a world: a board, the tools that send to it, a tool that listens, and calls one after the
-//! other with ticks between them, so that memory, lock and unfinished datagrams have a history.
+//! other with ticks between them, so that memory, lock and what is unfinished have a history.
 
 use crate::answer::Answer;
 use crate::ffi::{PLACES_SIZE, SENT_SIZE};
 use crate::generate::{any_frame, datagram, good_board, old_places, sound_places, tools, Tool};
 use crate::lines;
+use crate::lost;
 use crate::random::Random;
 use crate::setup::Setup;
 use crate::small;
@@ -61,6 +62,8 @@ impl World {
         self.calls_left -= 1;
         match random.below(100 + TOOL_CALLS) {
             100.. => tool::call(archive, &mut self.setup, &mut self.listener, random, tally),
+            // One of these takes as long as some eighty of the others.
+            0..=7 if random.once_in(80) => lost::session(archive, &self.setup, random, tally),
             0..=46 => self.frame(archive, random, tally),
             47..=50 => {
                 self.setup.pass(random, MOST_TICKS);

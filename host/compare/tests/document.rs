@@ -1,10 +1,10 @@
 //! Holds what document 01 says of the demonstration board, asked of the library through its C
 //! edge: the session, and the whole datagrams; what change request C-11 says of a board that is
-//! refused; and what C-14 says of ticks.
+//! refused; what C-14 says of ticks; and what C-15 says of a broken datagram.
 
 use compare::demonstration::{Demonstration, ALIAS, FLASH, MEMORY_LEN, TABLE, WRITE_LENGTHS};
-use compare::ffi::{self, Carry, NO_POSITION, PLACES, SPACE_SIZE};
-use compare::layout::{held, place};
+use compare::ffi::{self, Carry, NO_POSITION, PLACES, PLACES_SIZE, PLACE_SIZE, SPACE_SIZE};
+use compare::layout::{held, place, set_place};
 
 /// The reply to a whole datagram, or the code of its rejection.
 fn answer(board: &mut Demonstration, datagram: &[u8]) -> Vec<u8> {
@@ -262,7 +262,7 @@ fn write_by(tool: u32) -> [(u32, Vec<u8>); 2] {
     ]
 }
 
-/// The tools that have a datagram unfinished, and the ticks of their last accepted frames.
+/// The tools that are unfinished, and the ticks of their last accepted frames.
 fn unfinished(board: &mut Demonstration) -> Vec<(u16, u16)> {
     let places = *board.places();
     (0..PLACES)
@@ -353,6 +353,217 @@ fn a_lone_tick_tests_b7_alone() {
     let mut after = before;
     after[..9].fill(0);
     assert_eq!(*board.places(), after);
+}
+
+/// The frames of the tool 123: Single, First, Middle and Last.
+const SINGLE: u32 = 0x1A22_B123;
+const FIRST: u32 = 0x1B22_B123;
+const MIDDLE: u32 = 0x1C22_B123;
+const LAST: u32 = 0x1D22_B123;
+
+/// The kind and the code of what comes of a frame, which sends Rejected where it is refused and
+/// nothing where it is joined or swallowed.
+fn sent(board: &mut Demonstration, tick: u16, header: u32, data: &str) -> (u32, u16) {
+    let numbers = board.frame_at(tick, header, &bytes(data));
+    if matches!(numbers.kind, 2 | 3) {
+        let count = u8::from(numbers.kind == 3);
+        assert_eq!(
+            (numbers.frame_count, numbers.position),
+            (count, NO_POSITION)
+        );
+    }
+    (numbers.kind, numbers.code)
+}
+
+/// Nothing is sent: the frame is joined or swallowed.
+const NOTHING: (u32, u16) = (2, 0);
+const OUT_OF_ORDER: (u32, u16) = (3, 0x2040);
+const TOO_LONG: (u32, u16) = (3, 0x2000);
+const NO_ROOM: (u32, u16) = (3, 0x2020);
+/// Update Complete is done.
+const DONE: (u32, u16) = (7, 0);
+
+/// The bytes of a place whose source is being swallowed.
+fn swallowed(source: u16, tick: u16) -> [u8; PLACE_SIZE] {
+    let ([low, high], [tick_low, tick_high]) = (source.to_le_bytes(), tick.to_le_bytes());
+    [1, 0, low, high, tick_low, tick_high, 1, 0]
+}
+
+/// A board on which the tool 123 has a datagram of so many bytes unfinished, since this tick.
+fn begun(len: usize, tick: u16) -> Demonstration {
+    let mut board = Demonstration::new();
+    let mut pieces = vec![0x20; len];
+    let rest = pieces.split_off(len.min(8));
+    assert_eq!(board.frame_at(tick, FIRST, &pieces).kind, 2);
+    for piece in rest.chunks(8) {
+        assert_eq!(board.frame_at(tick, MIDDLE, piece).kind, 2);
+    }
+    board
+}
+
+#[test]
+fn one_rejection_for_one_broken_datagram() {
+    for (len, header, data, code) in [
+        (0, SINGLE, "20A8", OUT_OF_ORDER),
+        (6, FIRST, "20A8", OUT_OF_ORDER),
+        (72, FIRST, "", OUT_OF_ORDER),
+        (6, MIDDLE, "", OUT_OF_ORDER),
+        (72, MIDDLE, "", OUT_OF_ORDER),
+        (65, MIDDLE, "0001020304050607", TOO_LONG),
+        (72, MIDDLE, "00", TOO_LONG),
+    ] {
+        let mut board = begun(len, 10);
+        assert_eq!(sent(&mut board, 20, header, data), code);
+        // A refused frame is not an accepted one, and a swallowed one is.
+        assert_eq!(place(board.places(), 0), swallowed(0x123, 10));
+        for (tick, data) in [(3_010, "0001020304050607"), (6_010, ""), (6_010, "00")] {
+            assert_eq!(sent(&mut board, tick, MIDDLE, data), NOTHING);
+            assert_eq!(place(board.places(), 0), swallowed(0x123, tick));
+        }
+        assert_eq!(sent(&mut board, 9_010, LAST, "00"), NOTHING);
+        assert_eq!(*board.places(), [0; PLACES_SIZE]);
+        // Then nothing is unfinished, and every stray frame has its own.
+        for header in [LAST, MIDDLE, LAST] {
+            assert_eq!(sent(&mut board, 9_010, header, ""), OUT_OF_ORDER);
+            assert_eq!(*board.places(), [0; PLACES_SIZE]);
+        }
+    }
+}
+
+#[test]
+fn a_last_that_is_refused_leaves_nothing_to_wait_for() {
+    let mut board = begun(72, 0);
+    assert_eq!(sent(&mut board, 0, LAST, "00"), TOO_LONG);
+    assert_eq!(*board.places(), [0; PLACES_SIZE]);
+    assert_eq!(sent(&mut board, 0, MIDDLE, "00"), OUT_OF_ORDER);
+    assert_eq!(sent(&mut board, 0, SINGLE, "20A8"), DONE);
+}
+
+#[test]
+fn a_single_or_first_counts_as_if_nothing_were_unfinished() {
+    let mut board = begun(6, 0);
+    assert_eq!(sent(&mut board, 0, FIRST, "20"), OUT_OF_ORDER);
+    let mut other = board.clone();
+    assert_eq!(sent(&mut other, 0, SINGLE, "20A8"), DONE);
+    assert_eq!(*other.places(), [0; PLACES_SIZE]);
+    assert_eq!(sent(&mut board, 7, FIRST, "20"), NOTHING);
+    assert_eq!(place(board.places(), 0), [1, 1, 0x23, 1, 7, 0, 0, 0]);
+    assert_eq!(sent(&mut board, 7, LAST, "A8"), DONE);
+    assert_eq!(*board.places(), [0; PLACES_SIZE]);
+}
+
+#[test]
+fn a_tool_that_is_swallowed_takes_room() {
+    let mut board = Demonstration::new();
+    for tool in 1..=8 {
+        assert_eq!(sent(&mut board, 0, 0x1B22_B000 | tool, "20"), NOTHING);
+    }
+    assert_eq!(sent(&mut board, 0, 0x1C22_B005, ""), OUT_OF_ORDER);
+    assert_eq!(sent(&mut board, 0, FIRST, "20"), NO_ROOM);
+    // There is room for its own First, in its very place.
+    let mut other = board.clone();
+    assert_eq!(sent(&mut other, 9, 0x1B22_B005, "2080"), NOTHING);
+    assert_eq!(place(other.places(), 4), [1, 2, 5, 0, 9, 0, 0, 0]);
+    assert_eq!(sent(&mut other, 9, FIRST, "20"), NO_ROOM);
+    // Its Last makes room for others.
+    assert_eq!(sent(&mut board, 0, 0x1D22_B005, ""), NOTHING);
+    assert_eq!(sent(&mut board, 0, FIRST, "20"), NOTHING);
+    assert_eq!(place(board.places(), 4), [1, 1, 0x23, 1, 0, 0, 0, 0]);
+}
+
+#[test]
+fn a_tool_that_is_swallowed_grows_old() {
+    let mut board = begun(6, 65_000);
+    assert_eq!(sent(&mut board, 2_464, FIRST, "20"), OUT_OF_ORDER);
+    assert_eq!(unfinished(&mut board), [(0x123, 65_000)]);
+    // The refusal has not renewed it: at a lone tick, at an ignored frame and at its own Middle.
+    let mut alone = board.clone();
+    assert_eq!(alone.tick(2_465).kind, 2);
+    assert_eq!(*alone.places(), [0; PLACES_SIZE]);
+    let mut ignored = board.clone();
+    assert_eq!(sent(&mut ignored, 2_465, 0x1C30_0123, "").0, 1);
+    assert_eq!(*ignored.places(), [0; PLACES_SIZE]);
+    let mut late = board.clone();
+    assert_eq!(sent(&mut late, 2_465, MIDDLE, "20"), OUT_OF_ORDER);
+    assert_eq!(*late.places(), [0; PLACES_SIZE]);
+    // A Middle that is swallowed has.
+    assert_eq!(sent(&mut board, 2_464, MIDDLE, ""), NOTHING);
+    assert_eq!(board.tick(5_464).kind, 2);
+    assert_eq!(unfinished(&mut board), [(0x123, 2_464)]);
+    assert_eq!(board.tick(5_465).kind, 2);
+    assert_eq!(unfinished(&mut board), []);
+}
+
+#[test]
+fn b7_counts_a_tool_that_is_swallowed_and_asks_nothing_of_its_length() {
+    // The bytes of the first and of the third place.
+    let none = [0; PLACE_SIZE];
+    for (one, other, refused) in [
+        ([1, 255, 0xFF, 0x0F, 0, 0, 1, 0], none, false),
+        ([9, 73, 0, 0, 0, 0, 9, 9], none, false),
+        ([1, 73, 0, 0, 0, 0, 0, 1], none, true),
+        ([1, 0, 0, 0x10, 0, 0, 1, 0], none, true),
+        (swallowed(5, 0), [1, 0, 5, 0, 0, 0, 0, 0], true),
+        ([1, 0, 5, 0, 0, 0, 0, 0], swallowed(5, 0), true),
+        (swallowed(5, 0), swallowed(5, 0), true),
+        (swallowed(5, 0), swallowed(6, 0), false),
+        (swallowed(5, 0), [0, 0, 5, 0, 0, 0, 1, 0], false),
+    ] {
+        let mut board = Demonstration::new();
+        set_place(board.places(), 0, one);
+        set_place(board.places(), 2, other);
+        let before = *board.places();
+        let expected = if refused { (0, 7) } else { (2, 0) };
+        let numbers = board.tick(3_000);
+        assert_eq!(
+            (numbers.kind, numbers.house),
+            expected,
+            "{one:?}, {other:?}"
+        );
+        let numbers = board.frame_at(3_000, 0x1C22_B007, &[]);
+        assert_eq!(numbers.kind, if refused { 0 } else { 3 });
+        assert_eq!(*board.places(), before);
+    }
+}
+
+#[test]
+fn the_bytes_of_a_place_that_is_swallowed() {
+    // At the very tick that the place has, a Middle changes nothing where no length is there.
+    for (had, tick, changed) in [
+        ([9, 0, 0x23, 1, 40, 0, 8, 7], 40, false),
+        ([9, 0, 0x23, 1, 40, 0, 8, 7], 41, true),
+        ([9, 1, 0x23, 1, 40, 0, 8, 7], 40, true),
+    ] {
+        for data in ["", "0102"] {
+            let mut board = Demonstration::new();
+            set_place(board.places(), 7, had);
+            assert_eq!(sent(&mut board, tick, MIDDLE, data), NOTHING);
+            let expected = if changed { swallowed(0x123, tick) } else { had };
+            assert_eq!(place(board.places(), 7), expected);
+        }
+    }
+}
+
+#[test]
+fn a_session_with_a_lost_last() {
+    let input = "\
+:X1B22B123N200100000002;
+:X1B22B123N200100000004;
+:X1C22B123N11;
+:X1C22B123N;
+:X1D22B123N22;
+:X1D22B123N33;
+:X1B22B123N200100000004;
+:X1D22B123NAB;
+";
+    let expected = "\
+:X19A4822BN01232040;
+:X19A4822BN01232040;
+:X19A2822BN012300;
+";
+    assert_eq!(in_chunks(input, 10), expected);
+    let model = model::session(input.as_bytes());
+    assert_eq!(String::from_utf8_lossy(&model), expected);
 }
 
 #[test]

@@ -256,6 +256,32 @@ fn a_reply_in_frames() {
 }
 
 #[test]
+fn a_reply_that_is_broken() {
+    let (mut pool, mut places) = ([FILL; ffi::POOL_BYTES], [0; ffi::PLACES_SIZE]);
+    let mut joined = |header, data: &[u8]| {
+        let joined = tool::join(0x123, &mut pool, &mut places, header, data);
+        let datagram = pool[joined.start..joined.end].to_vec();
+        (joined.kind, joined.code, datagram, places[6])
+    };
+    let [single, first, middle, last] = [0x1A12_322B, 0x1B12_322B, 0x1C12_322B, 0x1D12_322B];
+    let (refused, nothing) = ((3, 0x2040, vec![], 1), (2, 0, vec![], 1));
+    assert_eq!(joined(first, &[0x20]), (2, 0, vec![], 0));
+    assert_eq!(joined(first, &[0x20]), refused);
+    assert_eq!(joined(middle, &[0x50]), nothing);
+    assert_eq!(joined(middle, &[]), nothing);
+    assert_eq!(joined(last, &[0x50]), (2, 0, vec![], 0));
+    assert_eq!(joined(last, &[0x50]), (3, 0x2040, vec![], 0));
+    // A First or a Single begins anew.
+    assert_eq!(joined(first, &[0x20]), (2, 0, vec![], 0));
+    assert_eq!(joined(middle, &[]), refused);
+    assert_eq!(joined(first, &[0x20, 0x51]), (2, 0, vec![], 0));
+    assert_eq!(joined(last, &[9]), (5, 0, vec![0x20, 0x51, 9], 0));
+    assert_eq!(joined(first, &[0x20]), (2, 0, vec![], 0));
+    assert_eq!(joined(single, &[0x20]), refused);
+    assert_eq!(joined(single, &[0x20]), (4, 0, vec![], 0));
+}
+
+#[test]
 fn the_version_of_the_edge() {
     assert_eq!(tool::version(), tool::VERSION);
 }

@@ -59,7 +59,7 @@ pub struct Board {
     pub memory: [u8; 48],
     /// The lock memory, zero at the start.
     pub lock: Lock,
-    /// The unfinished datagrams, none at the start.
+    /// What is kept for the tools that are unfinished; for none at the start.
     pub reception: Reception,
 }
 
@@ -97,7 +97,7 @@ impl Board {
         )
     }
 
-    /// Handles a lone tick with the board's unfinished datagrams.
+    /// Handles a lone tick with the board's reception state.
     pub fn time(&mut self, time: u64) -> Result<(), HouseNumber> {
         handle_time(&mut self.reception, time)
     }

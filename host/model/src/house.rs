@@ -21,7 +21,7 @@ pub enum HouseNumber {
     /// A reply buffer under 72 bytes.
     B6,
     /// A reception state with an unfinished datagram over 72 bytes, a source over 4,095, or one
-    /// source twice.
+    /// source twice. Sources that are being swallowed count, but have no datagram.
     B7,
     /// In cutting: more than 72 bytes, or an alias over 4,095.
     B9,

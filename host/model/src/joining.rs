@@ -13,7 +13,9 @@ pub enum FrameAnswer {
     /// The frame is none of the board's business: no answer, and no change but what its time
     /// brings.
     Ignored,
-    /// The frame was joined to an unfinished datagram: no answer yet.
+    /// The frame is accepted without an answer: it opened a datagram or was joined to one that is
+    /// still unfinished, or it was swallowed. A swallowed frame is not told apart from a joined
+    /// one: the tool hears of neither.
     Nothing,
     /// Rejected with 0x2000, 0x2020 or 0x2040 because of the reception state.
     TransportRefusal(u16),
@@ -56,9 +58,14 @@ fn recognise(alias: u16, header: u32, data: &[u8]) -> Option<(Kind, u16)> {
 /// B11 to B14, then B2 to B7, come first, in this order and also for a frame that would be ignored;
 /// they change nothing and drop nothing.
 ///
-/// Then, before the frame is looked at, every unfinished datagram whose source's last accepted
-/// frame is more than 3,000 ticks back is dropped without an answer. A frame that opens, is joined
-/// or finishes is accepted; one that is ignored or gets a transport refusal is not.
+/// Then, before the frame is looked at, every place whose source's last accepted frame is more than
+/// 3,000 ticks back is dropped without an answer, whether it holds an unfinished datagram or its
+/// source is being swallowed. A frame that opens, is joined, finishes or is swallowed is accepted;
+/// one that is ignored or gets a transport refusal is not.
+///
+/// A frame that breaks its source's unfinished datagram is refused once, for the whole datagram:
+/// unless it was a Last, which leaves nothing to wait for, the frames still to come are swallowed
+/// up to the Last. A Single or First shows that the tool begins anew, and ends the swallowing.
 ///
 /// The time counts ticks and is the full one: it goes on past 65,535 and never falls from call to
 /// call.
@@ -84,7 +91,25 @@ pub fn handle_frame(
     let Some((kind, source)) = recognise(description.alias, header, data) else {
         return Ok(FrameAnswer::Ignored);
     };
-    Ok(match (kind, reception.find(source)) {
+    let held = match reception.find(source) {
+        Some(place) if reception.is_swallowed(place) => match kind {
+            Kind::Middle => {
+                reception.renew(place, time);
+                return Ok(FrameAnswer::Nothing);
+            }
+            Kind::Last => {
+                reception.free(place);
+                return Ok(FrameAnswer::Nothing);
+            }
+            // The place just freed is there for a First, so it never lacks room.
+            Kind::Single | Kind::First => {
+                reception.free(place);
+                None
+            }
+        },
+        held => held,
+    };
+    Ok(match (kind, held) {
         (Kind::Single, None) => FrameAnswer::Handled(datagram::handle(
             description,
             flash,
@@ -104,7 +129,7 @@ pub fn handle_frame(
             if reception.append(place, data, time) {
                 FrameAnswer::Nothing
             } else {
-                reception.free(place);
+                reception.swallow(place);
                 FrameAnswer::TransportRefusal(code::TOO_LONG)
             }
         }
@@ -125,9 +150,10 @@ pub fn handle_frame(
             reception.free(place);
             answer
         }
+        // A Single, a First or an empty Middle that breaks a datagram, or a stray.
         (_, held) => {
             if let Some(place) = held {
-                reception.free(place);
+                reception.swallow(place);
             }
             FrameAnswer::TransportRefusal(code::OUT_OF_ORDER)
         }
@@ -136,8 +162,9 @@ pub fn handle_frame(
 
 /// Handles a lone tick: a time that comes without a frame.
 ///
-/// Only B7 is tested, and it changes nothing and drops nothing. Then every unfinished datagram
-/// whose source's last accepted frame is more than 3,000 ticks back is dropped without an answer.
+/// Only B7 is tested, and it changes nothing and drops nothing. Then every place whose source's
+/// last accepted frame is more than 3,000 ticks back is dropped without an answer, whether it holds
+/// an unfinished datagram or its source is being swallowed.
 pub fn handle_time(reception: &mut Reception, time: u64) -> Result<(), HouseNumber> {
     reception.check()?;
     reception.drop_due(time);

@@ -1,6 +1,6 @@
 //! Holds the parts of the library: the board's side of the OpenLCB memory configuration protocol
 //! as document 01 fixes it, and the tool's half, the writer of commands and the readers of what
-//! comes back; with change requests C-11, C-12 and C-14 of document 02.
+//! comes back; with change requests C-11, C-12, C-14 and C-15 of document 02.
 //!
 //! Document 01 decides; source documents 000 (Memory Configuration), 002 (Message Network) and
 //! 004 (Datagram Transport) stand behind it. Nothing here allocates while a frame is handled:
@@ -34,7 +34,7 @@ pub use gridconnect::{parse_line, print_line, LONGEST_LINE};
 pub use house::HouseNumber;
 pub use joining::{handle_frame, handle_time, source_of, FrameAnswer};
 pub use program::{run, session, Program};
-pub use reception::{Reception, Unfinished, MOST_UNFINISHED, RECEPTION_TIMEOUT};
+pub use reception::{Kept, Reception, Unfinished, MOST_UNFINISHED, RECEPTION_TIMEOUT};
 pub use sending::{frames_to_send, MOST_SENT};
 pub use splitting::{Line, Splitter};
 pub use tool::{

@@ -1,32 +1,52 @@
-//! Holds the reception state: the unfinished datagrams of up to eight sources, its check (B7), and
-//! its timeout.
+//! Holds the reception state: what is kept for up to eight sources, each with an unfinished
+//! datagram or being swallowed after a broken one, its check (B7), and its timeout.
 
 use crate::datagram::LONGEST_DATAGRAM;
 use crate::description::LAST_ALIAS;
 use crate::HouseNumber;
 
-/// The most sources that may each have one unfinished datagram.
+/// The most sources for which something may be kept: each has one unfinished datagram or is being
+/// swallowed.
 pub const MOST_UNFINISHED: usize = 8;
-/// How many ticks back the last accepted frame of a source may be while its unfinished datagram
-/// stays: exactly 3,000 stays, more is dropped.
+/// How many ticks back the last accepted frame of a source may be while its place stays: at
+/// exactly 3,000 it stays, at more it is dropped.
 pub const RECEPTION_TIMEOUT: u64 = 3_000;
 
-/// One unfinished datagram as it goes into and comes out of a reception state.
+/// What is kept for one source, as it goes into and comes out of a reception state: its unfinished
+/// datagram, or that the source is being swallowed.
 #[derive(Clone, Copy, Debug, PartialEq, Eq, PartialOrd, Ord)]
 pub struct Unfinished<'a> {
     /// The alias of the tool that sends it; damaged where over 4,095.
     pub source: u16,
-    /// The stored length; damaged where over 72.
+    /// The stored length; damaged where over 72, unless the source is being swallowed.
     pub length: usize,
     /// The bytes joined so far, as many as the stored length says but never over 72.
     pub bytes: &'a [u8],
     /// The time of its source's last accepted frame, in ticks. No time is damaged.
     pub last_accepted: u64,
+    /// Whether the source is being swallowed. Then there is no datagram, and length and bytes say
+    /// nothing: on the way in any will do and neither is looked at, on the way out the length is 0
+    /// and the bytes are empty.
+    pub swallowed: bool,
+}
+
+/// What a reception state has for one source.
+#[derive(Clone, Copy, Debug, PartialEq, Eq)]
+pub enum Kept<'a> {
+    /// Nothing: no place is kept for the source.
+    Nothing,
+    /// The bytes of its unfinished datagram. Where it was opened with none, they are empty, which
+    /// is not the same as nothing.
+    Bytes(&'a [u8]),
+    /// Only that the source is being swallowed.
+    Swallowed,
 }
 
 #[derive(Clone, Copy, Debug)]
 struct Place {
     source: u16,
+    /// How many bytes have been joined. It is 0 while the source is being swallowed, so that the
+    /// check need not ask which of the two the place is for.
     length: usize,
     bytes: [u8; LONGEST_DATAGRAM],
     last_accepted: u64,
@@ -41,13 +61,17 @@ impl Place {
     };
 }
 
-/// The unfinished datagrams of up to eight sources.
+/// What is kept for up to eight sources: of each its unfinished datagram, or that it is being
+/// swallowed.
 #[derive(Clone, Debug)]
 pub struct Reception {
-    /// Bit `n` says that place `n` holds an unfinished datagram.
+    /// Bit `n` says that place `n` is kept for its source.
     in_use: u8,
-    /// No last accepted frame of an unfinished datagram is earlier than this. It spares a walk
-    /// through the places: while this is not more than 3,000 ticks back, none of them is.
+    /// Bit `n` says that the source of place `n` is being swallowed; else the place holds an
+    /// unfinished datagram. Only places in use have their bit here.
+    swallowed: u8,
+    /// No last accepted frame of a place in use is earlier than this. It spares a walk through the
+    /// places: while this is not more than 3,000 ticks back, none of them is.
     earliest: u64,
     places: [Place; MOST_UNFINISHED],
 }
@@ -64,6 +88,7 @@ impl Reception {
     pub const fn new() -> Self {
         Self {
             in_use: 0,
+            swallowed: 0,
             earliest: u64::MAX,
             places: [Place::FREE; MOST_UNFINISHED],
         }
@@ -72,7 +97,7 @@ impl Reception {
     /// A state with these entries, damaged ones among them; `None` where there are over eight.
     ///
     /// Of the bytes, as many are kept as the length says and at most 72; bytes that are missing
-    /// are zero.
+    /// are zero. Where the source is being swallowed, neither length nor bytes are kept.
     #[must_use]
     pub fn from_unfinished(entries: &[Unfinished]) -> Option<Self> {
         if entries.len() > MOST_UNFINISHED {
@@ -82,9 +107,13 @@ impl Reception {
         for (index, entry) in entries.iter().enumerate() {
             let place = &mut reception.places[index];
             place.source = entry.source;
-            place.length = entry.length;
-            let kept = entry.bytes.len().min(entry.length).min(LONGEST_DATAGRAM);
-            place.bytes[..kept].copy_from_slice(&entry.bytes[..kept]);
+            if entry.swallowed {
+                reception.swallowed |= 1 << index;
+            } else {
+                place.length = entry.length;
+                let kept = entry.bytes.len().min(entry.length).min(LONGEST_DATAGRAM);
+                place.bytes[..kept].copy_from_slice(&entry.bytes[..kept]);
+            }
             place.last_accepted = entry.last_accepted;
             reception.earliest = reception.earliest.min(entry.last_accepted);
             reception.in_use |= 1 << index;
@@ -92,7 +121,7 @@ impl Reception {
         Some(reception)
     }
 
-    /// The unfinished datagrams. Their order says nothing.
+    /// What is kept, one entry for each place in use. Their order says nothing.
     pub fn unfinished(&self) -> impl Iterator<Item = Unfinished<'_>> {
         indices(self.in_use).map(|index| {
             let place = &self.places[index];
@@ -101,21 +130,26 @@ impl Reception {
                 length: place.length,
                 bytes: &place.bytes[..place.length.min(LONGEST_DATAGRAM)],
                 last_accepted: place.last_accepted,
+                swallowed: self.is_swallowed(index),
             }
         })
     }
 
-    /// The unfinished bytes kept for this source, or nothing where none are kept.
+    /// What is kept for this source.
     #[must_use]
-    pub fn unfinished_of(&self, source: u16) -> Option<&[u8]> {
-        self.find(source).map(|index| {
-            let place = &self.places[index];
-            &place.bytes[..place.length.min(LONGEST_DATAGRAM)]
-        })
+    pub fn kept_for(&self, source: u16) -> Kept<'_> {
+        match self.find(source) {
+            None => Kept::Nothing,
+            Some(index) if self.is_swallowed(index) => Kept::Swallowed,
+            Some(index) => {
+                let place = &self.places[index];
+                Kept::Bytes(&place.bytes[..place.length.min(LONGEST_DATAGRAM)])
+            }
+        }
     }
 
-    /// Whether both states keep the same unfinished datagrams with the same times, in whatever
-    /// order.
+    /// Whether both states keep the same unfinished datagrams, and swallow the same sources, with
+    /// the same times, in whatever order.
     #[must_use]
     pub fn keeps_the_same_as(&self, other: &Self) -> bool {
         let count_in = |state: &Self, entry: Unfinished| {
@@ -127,8 +161,8 @@ impl Reception {
                 .all(|entry| count_in(self, entry) == count_in(other, entry))
     }
 
-    /// B7: every length at most 72, every source at most 4,095, no source twice. It asks nothing
-    /// of times.
+    /// B7: every length at most 72, every source at most 4,095, no source twice. A source that is
+    /// being swallowed is a source like any other, but has no length. Nothing is asked of times.
     pub fn check(&self) -> Result<(), HouseNumber> {
         let mut left = self.in_use;
         while left != 0 {
@@ -144,13 +178,18 @@ impl Reception {
         Ok(())
     }
 
-    /// The place that holds this source's unfinished datagram.
+    /// The place that is kept for this source.
     pub(crate) fn find(&self, source: u16) -> Option<usize> {
         indices(self.in_use).find(|&index| self.places[index].source == source)
     }
 
-    /// Drops the unfinished datagrams whose source's last accepted frame is more than 3,000 ticks
-    /// back at this time. The state has been checked.
+    /// Whether this place, which is in use, is kept only because its source is being swallowed.
+    pub(crate) const fn is_swallowed(&self, index: usize) -> bool {
+        self.swallowed >> index & 1 == 1
+    }
+
+    /// Frees the places whose source's last accepted frame is more than 3,000 ticks back at this
+    /// time. The state has been checked.
     pub(crate) fn drop_due(&mut self, time: u64) {
         if is_due(self.earliest, time) {
             self.drop_each_due(time);
@@ -202,6 +241,20 @@ impl Reception {
         true
     }
 
+    /// Gives up the datagram in this place and keeps the place: from now on its source is being
+    /// swallowed. The time stays that of the last accepted frame, as the frame that broke the
+    /// datagram is not accepted.
+    pub(crate) fn swallow(&mut self, index: usize) {
+        self.places[index].length = 0;
+        self.swallowed |= 1 << index;
+    }
+
+    /// Notes a frame of this time that was swallowed, and so accepted, in this place.
+    pub(crate) fn renew(&mut self, index: usize, time: u64) {
+        self.places[index].last_accepted = time;
+        self.earliest = self.earliest.min(time);
+    }
+
     /// The bytes joined so far in this place. The state has been checked.
     pub(crate) fn joined(&self, index: usize) -> &[u8] {
         let place = &self.places[index];
@@ -211,6 +264,7 @@ impl Reception {
     /// Frees this place.
     pub(crate) fn free(&mut self, index: usize) {
         self.in_use &= !(1 << index);
+        self.swallowed &= self.in_use;
     }
 }
 

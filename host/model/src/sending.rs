@@ -14,8 +14,9 @@ pub const MOST_SENT: usize = 1 + MOST_FRAMES;
 /// of the frame, and a reply is at the start of `reply`. The room behind the frames keeps what it
 /// had.
 ///
-/// For a house number, an ignored and a joined frame there are none; for a refusal there is
-/// Rejected; else there is Received OK and, where the answer has a reply, the reply's frames.
+/// For a house number, an ignored, a joined and a swallowed frame there are none; for a refusal
+/// there is Rejected; else there is Received OK and, where the answer has a reply, the reply's
+/// frames.
 ///
 /// # Panics
 ///

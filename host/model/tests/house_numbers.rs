@@ -3,9 +3,10 @@
 
 mod common;
 
-use common::{entry, first, hex, in_flash, read_only, single, space, Bench};
+use common::{entry, first, hex, in_flash, last, read_only, single, space, swallowed, Bench};
 use model::{
-    check_description, Answer, Description, FrameAnswer, HouseNumber, Reception, Space, Unfinished,
+    check_description, Answer, Description, FrameAnswer, HouseNumber, Kept, Reception, Space,
+    Unfinished,
 };
 use HouseNumber::{B11, B12, B13, B14, B2, B3, B4, B5, B6, B7, B9};
 
@@ -405,6 +406,26 @@ fn b7_reception() {
         // The source of the frame itself is damaged, or quite another.
         &[entry(0x123, 73, &bytes)],
         &[entry(0x123, 8, &bytes), entry(0x456, 73, &bytes)],
+        // Sources that are being swallowed.
+        &[swallowed(4_096)],
+        &[swallowed(65_535)],
+        &[swallowed(0x123), swallowed(4_096)],
+        &[swallowed(0x123), swallowed(0x123)],
+        &[swallowed(0), entry(1, 0, &[]), swallowed(0)],
+        &[swallowed(5), entry(5, 0, &[])],
+        &[entry(5, 0, &[]), swallowed(5)],
+        &[entry(5, 1, &bytes), swallowed(6), swallowed(5)],
+        &[swallowed(0x123), entry(0x456, 73, &bytes)],
+        &[
+            swallowed(0),
+            swallowed(1),
+            swallowed(2),
+            swallowed(3),
+            swallowed(4),
+            swallowed(5),
+            swallowed(6),
+            swallowed(6),
+        ],
     ];
     // At the later times every entry would be dropped.
     for (entries, time) in damaged
@@ -452,6 +473,37 @@ fn b7_asks_nothing_of_times() {
 }
 
 #[test]
+fn b7_asks_nothing_of_the_length_of_what_is_swallowed() {
+    let bytes: Vec<u8> = (0..100).collect();
+    for length in [0, 1, 72, 73, 200, 65_536, usize::MAX] {
+        for given in [0, 1, 72, 73, 100] {
+            let entries = [
+                Unfinished {
+                    length,
+                    bytes: &bytes[..given],
+                    ..swallowed(1)
+                },
+                entry(2, 1, &[0x20]),
+            ];
+            let mut bench = Bench::demo();
+            bench.reception = Reception::from_unfinished(&entries).unwrap();
+            assert_eq!(bench.reception.check(), Ok(()));
+            assert_eq!(bench.lone_tick(), Ok(()));
+            assert_eq!(bench.reception.kept_for(1), Kept::Swallowed);
+            assert_eq!(bench.frame(last(1), &[0]), Ok(FrameAnswer::Nothing));
+            assert_eq!(bench.reception.kept_for(1), Kept::Nothing);
+            // The length is not left behind for whoever has the place next.
+            assert_eq!(bench.frame(first(3), &[0x20]), Ok(FrameAnswer::Nothing));
+            assert_eq!(bench.reception.kept_for(3), Kept::Bytes(&[0x20]));
+            assert_eq!(
+                bench.frame(last(3), &[0xA8]),
+                Ok(FrameAnswer::Handled(Answer::UpdateComplete))
+            );
+        }
+    }
+}
+
+#[test]
 fn sound_states_at_their_limits() {
     let bytes = [7; 72];
     let entries = [
@@ -469,6 +521,14 @@ fn sound_states_at_their_limits() {
     );
     assert_eq!(bench.frame(first(0x123), &[]), Ok(FrameAnswer::Nothing));
     assert_eq!(bench.kept().len(), 5);
+    // Eight sources that are being swallowed, the board's own alias among them.
+    let entries = [0, 4_095, 0x22B, 1, 2, 3, 4, 5].map(swallowed);
+    bench.reception = Reception::from_unfinished(&entries).unwrap();
+    assert_eq!(bench.reception.check(), Ok(()));
+    assert_eq!(bench.frame(last(0xFFF), &[]), Ok(FrameAnswer::Nothing));
+    assert_eq!(bench.frame(last(0), &[]), Ok(FrameAnswer::Nothing));
+    assert_eq!(bench.frame(last(0x22B), &[]), Ok(FrameAnswer::Ignored));
+    assert_eq!(bench.kept().len(), 6);
 }
 
 #[test]
@@ -503,6 +563,56 @@ fn entries_come_back_as_they_went_in() {
     turned[0].length = 71;
     let other = Reception::from_unfinished(&turned).unwrap();
     assert!(!state.keeps_the_same_as(&other));
+}
+
+#[test]
+fn of_what_is_swallowed_only_source_and_time_come_back() {
+    let bytes = [7; 72];
+    let went_in = [
+        Unfinished {
+            length: 200,
+            bytes: &bytes,
+            last_accepted: 65_536,
+            ..swallowed(9)
+        },
+        Unfinished {
+            length: 3,
+            bytes: &bytes[..3],
+            ..swallowed(0xFFFF)
+        },
+        entry(3, 0, &[]),
+    ];
+    let came_out = [
+        Unfinished {
+            last_accepted: 65_536,
+            ..swallowed(9)
+        },
+        swallowed(0xFFFF),
+        entry(3, 0, &[]),
+    ];
+    let state = Reception::from_unfinished(&went_in).unwrap();
+    assert_eq!(state.unfinished().collect::<Vec<_>>(), came_out);
+    assert_eq!(state.kept_for(9), Kept::Swallowed);
+    assert_eq!(state.kept_for(0xFFFF), Kept::Swallowed);
+    assert_eq!(state.kept_for(3), Kept::Bytes(&[]));
+    assert_eq!(state.kept_for(4), Kept::Nothing);
+    // The same in another order, whatever length and bytes were given with what is swallowed.
+    let mut turned = came_out;
+    turned.reverse();
+    let other = Reception::from_unfinished(&turned).unwrap();
+    assert!(state.keeps_the_same_as(&other) && other.keeps_the_same_as(&state));
+    // Another time, another source, and an unfinished datagram of no bytes are not the same.
+    let changes: [fn(&mut Unfinished); 3] = [
+        |entry| entry.last_accepted += 1,
+        |entry| entry.source -= 1,
+        |entry| entry.swallowed = !entry.swallowed,
+    ];
+    for (at, change) in (0..3).flat_map(|at| changes.map(|change| (at, change))) {
+        let mut changed = came_out;
+        change(&mut changed[at]);
+        let other = Reception::from_unfinished(&changed).unwrap();
+        assert!(!state.keeps_the_same_as(&other) && !other.keeps_the_same_as(&state));
+    }
 }
 
 #[test]

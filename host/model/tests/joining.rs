@@ -1,9 +1,11 @@
-//! Holds the tests of the joining of frames: order, totals, room, and what is ignored.
+//! Holds the tests of the joining of frames: order, totals, room, and what is ignored. What becomes
+//! of a source after its datagram was broken is tested apart, with the swallowing.
 
 mod common;
 
-use common::{first, hex, last, middle, single, Bench, FILL};
+use common::{first, hex, last, middle, single, Bench, Book, FILL};
 use model::{Answer, FrameAnswer, Reception};
+use Book::{Holds, Swallowed};
 use FrameAnswer::{Handled, Ignored, Nothing, TransportRefusal};
 
 const WRITE: [u8; 7] = [0x20, 0x01, 0, 0, 0, 2, 0xAB];
@@ -57,7 +59,7 @@ fn first_middle_last_are_joined_in_order() {
     assert_eq!(send(&mut board, first(1), &hex("2001")), Nothing);
     assert_eq!(send(&mut board, middle(1), &hex("000000")), Nothing);
     assert_eq!(send(&mut board, middle(1), &hex("04")), Nothing);
-    assert_eq!(board.kept(), [(1, hex("200100000004"))]);
+    assert_eq!(board.kept(), [(1, Holds(hex("200100000004")))]);
     assert_eq!(send(&mut board, last(1), &hex("1122")), written(4, 2));
     assert_eq!(board.memory[3..7], [0, 0x11, 0x22, 0]);
     assert!(board.kept().is_empty());
@@ -68,7 +70,7 @@ fn frames_of_no_bytes() {
     let mut board = Bench::demo();
     // Opened with zero bytes is unfinished all the same.
     assert_eq!(send(&mut board, first(1), &[]), Nothing);
-    assert_eq!(board.kept(), [(1, vec![])]);
+    assert_eq!(board.kept(), [(1, Holds(vec![]))]);
     assert_eq!(
         send(&mut board, last(1), &[]),
         Handled(Answer::Rejected(0x1080))
@@ -81,6 +83,8 @@ fn frames_of_no_bytes() {
     );
     assert_eq!(send(&mut board, first(1), &[]), Nothing);
     assert_eq!(send(&mut board, first(1), &[]), TransportRefusal(0x2040));
+    assert_eq!(board.kept(), [(1, Swallowed)]);
+    assert_eq!(send(&mut board, last(1), &[]), Nothing);
     assert!(board.kept().is_empty());
     // A Last of no bytes ends what is there.
     assert_eq!(send(&mut board, first(1), &hex("20A8")), Nothing);
@@ -88,12 +92,16 @@ fn frames_of_no_bytes() {
         send(&mut board, last(1), &[]),
         Handled(Answer::UpdateComplete)
     );
-    // An empty Middle drops; with none unfinished it is refused too.
+    // An empty Middle breaks a datagram; with none unfinished it is refused too.
     assert_eq!(send(&mut board, first(1), &hex("20A8")), Nothing);
     assert_eq!(send(&mut board, middle(1), &[]), TransportRefusal(0x2040));
+    assert_eq!(board.kept(), [(1, Swallowed)]);
+    assert_eq!(send(&mut board, middle(1), &[]), Nothing);
+    assert_eq!(send(&mut board, last(1), &[]), Nothing);
     assert!(board.kept().is_empty());
     assert_eq!(send(&mut board, middle(1), &[]), TransportRefusal(0x2040));
     assert_eq!(send(&mut board, last(1), &[]), TransportRefusal(0x2040));
+    assert!(board.kept().is_empty());
 }
 
 #[test]
@@ -104,22 +112,21 @@ fn frames_out_of_order() {
         assert_eq!(send(&mut board, first(1), &hex("2001")), Nothing);
         assert_eq!(send(&mut board, stray, &WRITE), TransportRefusal(0x2040));
         assert_eq!(board.memory[2], 0);
-        assert_eq!(board.kept(), [(2, hex("20"))]);
-        // Each stray frame afterwards gets its own.
-        assert_eq!(
-            send(&mut board, middle(1), &hex("00")),
-            TransportRefusal(0x2040)
-        );
-        assert_eq!(
-            send(&mut board, last(1), &hex("00")),
-            TransportRefusal(0x2040)
-        );
-        assert_eq!(
-            send(&mut board, last(1), &hex("00")),
-            TransportRefusal(0x2040)
-        );
+        assert_eq!(board.kept(), [(1, Swallowed), (2, Holds(hex("20")))]);
+        // What is left of the broken datagram is swallowed, up to its Last.
+        assert_eq!(send(&mut board, middle(1), &hex("00")), Nothing);
+        assert_eq!(send(&mut board, last(1), &hex("00")), Nothing);
+        assert_eq!(board.kept(), [(2, Holds(hex("20")))]);
+        // Each stray frame afterwards gets its own refusal.
+        for header in [middle(1), last(1), last(1), middle(1)] {
+            assert_eq!(
+                send(&mut board, header, &hex("00")),
+                TransportRefusal(0x2040)
+            );
+            assert_eq!(board.kept(), [(2, Holds(hex("20")))]);
+        }
         assert_eq!(send(&mut board, single(1), &WRITE), written(2, 1));
-        assert_eq!(board.kept(), [(2, hex("20"))]);
+        assert_eq!(board.kept(), [(2, Holds(hex("20")))]);
     }
 }
 
@@ -138,7 +145,10 @@ fn totals_of_72_and_73_bytes() {
         Handled(Answer::Rejected(0x1041))
     );
     fill(&mut board, 9);
-    assert_eq!(board.kept()[0].1.len(), 72);
+    assert_eq!(
+        board.kept(),
+        [(1, Holds([[0x20; 8].as_slice(), &[0x44; 64]].concat()))]
+    );
     assert_eq!(
         send(&mut board, last(1), &[]),
         Handled(Answer::Rejected(0x1041))
@@ -146,14 +156,16 @@ fn totals_of_72_and_73_bytes() {
     fill(&mut board, 9);
     assert_eq!(send(&mut board, last(1), &[0]), TransportRefusal(0x2000));
     assert!(board.kept().is_empty());
+    assert_eq!(send(&mut board, last(1), &[]), TransportRefusal(0x2040));
     fill(&mut board, 9);
     assert_eq!(send(&mut board, middle(1), &[0]), TransportRefusal(0x2000));
+    assert_eq!(board.kept(), [(1, Swallowed)]);
+    assert_eq!(send(&mut board, last(1), &[]), Nothing);
     assert!(board.kept().is_empty());
-    assert_eq!(send(&mut board, last(1), &[]), TransportRefusal(0x2040));
     // An empty Middle is tested before the total.
     fill(&mut board, 9);
     assert_eq!(send(&mut board, middle(1), &[]), TransportRefusal(0x2040));
-    assert!(board.kept().is_empty());
+    assert_eq!(board.kept(), [(1, Swallowed)]);
     // Past 72 by more than one.
     assert_eq!(send(&mut board, first(1), &[0; 7]), Nothing);
     for _ in 0..8 {
@@ -188,18 +200,26 @@ fn the_eighth_and_the_ninth_source() {
     assert_eq!(board.kept(), full);
     // A Single needs no room.
     assert_eq!(send(&mut board, single(9), &WRITE), written(2, 1));
-    // A First from one of the eight is out of order, not without room; it frees the room.
+    // A First from one of the eight is out of order, not without room; its place stays taken up to
+    // the Last.
     assert_eq!(
         send(&mut board, first(4), &[0x20]),
         TransportRefusal(0x2040)
     );
+    assert_eq!(board.kept().len(), 8);
+    assert_eq!(
+        send(&mut board, first(9), &[0x20, 9]),
+        TransportRefusal(0x2020)
+    );
+    assert_eq!(send(&mut board, last(4), &[]), Nothing);
     assert_eq!(board.kept().len(), 7);
-    assert_eq!(send(&mut board, first(9), &[0x20, 0x09]), Nothing);
+    assert_eq!(send(&mut board, first(9), &[0x20, 9]), Nothing);
     assert_eq!(
         send(&mut board, first(4), &[0x20]),
         TransportRefusal(0x2020)
     );
-    // Room freed by a Last, by a total past 72 and by a Single is used again.
+    // Room freed by a Last that finishes, by one past 72 bytes and by a Single that ends the
+    // swallowing is used again.
     assert_eq!(
         send(&mut board, last(1), &[]),
         Handled(Answer::Rejected(0x1080))
@@ -208,26 +228,24 @@ fn the_eighth_and_the_ninth_source() {
     for _ in 0..8 {
         assert_eq!(send(&mut board, middle(2), &[0; 8]), Nothing);
     }
-    assert_eq!(
-        send(&mut board, middle(2), &[0; 8]),
-        TransportRefusal(0x2000)
-    );
+    assert_eq!(send(&mut board, last(2), &[0; 8]), TransportRefusal(0x2000));
     assert_eq!(send(&mut board, first(1), &[0x20, 1]), Nothing);
     assert_eq!(
         send(&mut board, single(3), &WRITE),
         TransportRefusal(0x2040)
     );
+    assert_eq!(
+        send(&mut board, first(2), &[0x20, 2]),
+        TransportRefusal(0x2020)
+    );
+    assert_eq!(send(&mut board, single(3), &WRITE), written(2, 1));
     assert_eq!(send(&mut board, first(2), &[0x20, 2]), Nothing);
     assert_eq!(
         send(&mut board, first(3), &[0x20, 3]),
         TransportRefusal(0x2020)
     );
-    let sources: Vec<u16> = board.kept().iter().map(|kept| kept.0).collect();
-    assert_eq!(sources, [1, 2, 4, 5, 6, 7, 8, 9]);
-    assert!(board
-        .kept()
-        .iter()
-        .all(|(source, bytes)| *bytes == [0x20, *source as u8]));
+    let expected = [1, 2, 4, 5, 6, 7, 8, 9].map(|source| (source, Holds(vec![0x20, source as u8])));
+    assert_eq!(board.kept(), expected);
 }
 
 #[test]
@@ -298,7 +316,7 @@ fn what_is_ignored() {
         assert_eq!(send(&mut board, kind | 0x22_B123, &[0; 9]), Ignored);
         assert_eq!(send(&mut board, kind | 0x22_B123, &[0; 100]), Ignored);
     }
-    assert_eq!(board.kept(), [(0x123, hex("2001"))]);
+    assert_eq!(board.kept(), [(0x123, Holds(hex("2001")))]);
     assert_eq!(
         send(&mut board, last(0x123), &hex("0000000255")),
         written(2, 1)

@@ -113,12 +113,52 @@ fn refusals_are_printed_and_ignored_frames_are_not() {
 }
 
 #[test]
+fn one_rejection_is_printed_for_one_broken_datagram() {
+    // The Last of a write is lost, and the tool sends the next datagram in four frames: one
+    // rejection for all of it, and the second attempt is answered.
+    let attempt = "\
+:X1B22B123N2001000000020102;
+:X1C22B123N0304050607080910;
+:X1C22B123N1112131415161718;
+:X1D22B123N19;
+";
+    let lost = ":X1B22B123N2001000000020102;\n";
+    let read = ":X1A22B456N20410000000203;\n";
+    let stray = ":X1C22B123N00;\n:X1D22B123N;\n";
+    let input = format!("{lost}{attempt}{read}{attempt}{read}{stray}");
+    let output = "\
+:X19A4822BN01232040;
+:X19A2822BN045680;
+:X1B45622BN2051000000020000;
+:X1D45622BN00;
+:X19A2822BN012300;
+:X19A2822BN045680;
+:X1B45622BN2051000000020102;
+:X1D45622BN03;
+:X19A4822BN01232040;
+:X19A4822BN01232040;
+";
+    for block_size in [1, 64, 65_536] {
+        assert_eq!(answers(&input, block_size), output);
+    }
+    assert_eq!(whole(&input), output);
+}
+
+#[test]
 fn every_frame_comes_at_tick_0() {
     // However many lines come between, nothing that is unfinished is dropped.
     let others = ":X1A22B456N20A8;\n:X1A300123N2080;\nx\n".repeat(30_000);
     let input = format!(":X1B22B123N20;\n{others}:X1D22B123NA8;\n");
     let output = format!(
         "{}:X19A2822BN012300;\n",
+        ":X19A2822BN045600;\n?\n".repeat(30_000)
+    );
+    assert_eq!(answers(&input, 65_536), output);
+    assert_eq!(whole(&input), output);
+    // Nor is a tool that is being swallowed forgotten.
+    let input = format!(":X1B22B123N20;\n:X1B22B123N20;\n{others}:X1D22B123NA8;\n");
+    let output = format!(
+        ":X19A4822BN01232040;\n{}",
         ":X19A2822BN045600;\n?\n".repeat(30_000)
     );
     assert_eq!(answers(&input, 65_536), output);

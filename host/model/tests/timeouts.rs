@@ -1,13 +1,17 @@
 //! Holds the tests of times: what is dropped and when, what renews and what does not, lone ticks,
-//! and refused calls, which drop nothing.
+//! and refused calls, which drop nothing. Places whose source is being swallowed grow old like the
+//! others.
 
 mod common;
 
-use common::{entry, first, hex, last, middle, single, space, Bench, Numbers, FILL};
+use common::{
+    entry, first, hex, last, middle, single, space, swallowed, Bench, Book, Numbers, FILL,
+};
 use model::{
-    demo_board, handle_time, Answer, FrameAnswer, HouseNumber, Reception, Unfinished,
+    demo_board, handle_time, Answer, FrameAnswer, HouseNumber, Kept, Reception, Unfinished,
     RECEPTION_TIMEOUT,
 };
+use Book::{Holds, Swallowed};
 use FrameAnswer::{Handled, Ignored, Nothing, TransportRefusal};
 use HouseNumber::{B11, B12, B13, B14, B2, B3, B4, B5, B6, B7};
 
@@ -61,14 +65,38 @@ fn entry_at(source: u16, last_accepted: u64) -> Unfinished<'static> {
     }
 }
 
+/// An entry for a source that is being swallowed.
+fn swallowed_at(source: u16, last_accepted: u64) -> Unfinished<'static> {
+    Unfinished {
+        last_accepted,
+        ..swallowed(source)
+    }
+}
+
+fn board_of(entries: &[Unfinished]) -> Bench {
+    let mut board = Bench::demo();
+    board.reception = Reception::from_unfinished(entries).unwrap();
+    board
+}
+
 /// A board with these sources unfinished, each with its time.
 fn board_with(sources: &[(u16, u64)]) -> Bench {
     let entries: Vec<_> = sources
         .iter()
         .map(|&(source, time)| entry_at(source, time))
         .collect();
+    board_of(&entries)
+}
+
+/// Opens a datagram of tool 1 at one time and breaks it at another.
+fn broken(opened: u64, refused: u64) -> Bench {
     let mut board = Bench::demo();
-    board.reception = Reception::from_unfinished(&entries).unwrap();
+    assert_eq!(at(&mut board, opened, first(1), &[0x20]), Nothing);
+    assert_eq!(
+        at(&mut board, refused, first(1), &[0x20]),
+        TransportRefusal(0x2040)
+    );
+    assert_eq!(board.kept(), [(1, Swallowed)]);
     board
 }
 
@@ -93,7 +121,7 @@ fn exactly_3000_stays_and_3001_drops() {
         assert_eq!(at(&mut board, start, first(1), &hex("20")), Nothing);
         for age in [0, 1, 2_999, 3_000] {
             tick(&mut board, start + age);
-            assert_eq!(board.kept(), [(1, hex("20"))]);
+            assert_eq!(board.kept(), [(1, Holds(hex("20")))]);
             assert_eq!(board.times(), [(1, start)]);
             assert_eq!(at(&mut board, start + age, 0, &[]), Ignored);
             assert_eq!(board.times(), [(1, start)]);
@@ -147,7 +175,8 @@ fn the_drop_comes_before_the_source_s_own_frame() {
         let mut board = opened.clone();
         assert_eq!(at(&mut board, 3_007, header, data), late);
         let opens = header == first(1);
-        assert_eq!(board.kept(), opens.then(|| (1, WRITE.to_vec())).as_slice());
+        let opened = opens.then(|| (1, Holds(WRITE.to_vec())));
+        assert_eq!(board.kept(), opened.as_slice());
         assert_eq!(board.times(), opens.then_some((1, 3_007)).as_slice());
     }
 }
@@ -227,7 +256,7 @@ fn a_middle_renews_its_own_source_alone() {
     assert_eq!(board.times(), [(1, 3_000), (2, 0)]);
     assert_eq!(at(&mut board, 6_000, middle(1), &WRITE[4..5]), Nothing);
     assert_eq!(board.times(), [(1, 6_000)]);
-    assert_eq!(board.kept(), [(1, WRITE[..5].to_vec())]);
+    assert_eq!(board.kept(), [(1, Holds(WRITE[..5].to_vec()))]);
     assert_eq!(at(&mut board, 9_000, last(1), &WRITE[5..]), WRITTEN);
     assert!(board.kept().is_empty());
     // A whole datagram of nine frames, each at the last tick.
@@ -316,10 +345,11 @@ fn a_frame_refused_with_2040_does_not_renew() {
             at(&mut board, 2_000, header, data),
             TransportRefusal(0x2040)
         );
-        // It drops what its own source had, and no entry takes its time.
-        let left = if header == last(2) { 1 } else { 3 };
-        assert!(board.times().iter().all(|&(_, time)| time == 0));
-        assert_eq!(board.times()[0], (left, 0));
+        // It breaks what its own source had, and no entry takes its time.
+        let stray = header == last(2);
+        let broken = if stray { Holds(hex("20")) } else { Swallowed };
+        assert_eq!(board.kept(), [(1, broken), (3, Holds(hex("20")))]);
+        assert_eq!(board.times(), [(1, 0), (3, 0)]);
         // Strays with nothing unfinished leave nothing behind.
         assert_eq!(
             at(&mut board, 3_000, middle(2), &[0]),
@@ -347,7 +377,9 @@ fn a_frame_refused_with_2000_does_not_renew() {
             at(&mut board, 3_010, refused, &[0]),
             TransportRefusal(0x2000)
         );
-        assert_eq!(board.times(), [(2, 10)]);
+        let mut expected = vec![(1, 10), (2, 10)];
+        expected.retain(|&(source, _)| refused == middle(1) || source == 2);
+        assert_eq!(board.times(), expected);
         // Too late even for 0x2000: nothing is unfinished any more.
         assert_eq!(
             at(&mut board, 3_011, middle(2), &[0]),
@@ -373,6 +405,178 @@ fn a_frame_refused_with_2020_does_not_renew() {
     }
     tick(&mut board, 3_001);
     assert!(board.kept().is_empty());
+}
+
+#[test]
+fn a_frame_that_breaks_a_datagram_does_not_renew_it() {
+    for start in STARTS {
+        for refused in [0, 1, 1_500, 2_999, 3_000] {
+            let mut board = broken(start, start + refused);
+            assert_eq!(board.times(), [(1, start)]);
+            tick(&mut board, start + 3_000);
+            assert_eq!(board.kept(), [(1, Swallowed)]);
+            assert_eq!(board.times(), [(1, start)]);
+            let mut framed = board.clone();
+            tick(&mut board, start + 3_001);
+            assert_eq!(at(&mut framed, start + 3_001, 0, &[]), Ignored);
+            for mut late in [board, framed] {
+                assert!(late.kept().is_empty());
+                // What is left of the broken datagram is stray now.
+                for (header, data) in [(middle(1), &[0][..]), (middle(1), &[]), (last(1), &[])] {
+                    assert_eq!(
+                        at(&mut late, start + 3_001, header, data),
+                        TransportRefusal(0x2040)
+                    );
+                    assert!(late.kept().is_empty());
+                }
+            }
+        }
+    }
+}
+
+#[test]
+fn a_middle_past_72_bytes_and_an_empty_one_do_not_renew_either() {
+    for (refused, code) in [(&[0][..], 0x2000), (&[], 0x2040)] {
+        let mut board = Bench::demo();
+        assert_eq!(at(&mut board, 0, first(1), &[0x20; 8]), Nothing);
+        for _ in 0..8 {
+            assert_eq!(at(&mut board, 10, middle(1), &[0; 8]), Nothing);
+        }
+        assert_eq!(
+            at(&mut board, 2_000, middle(1), refused),
+            TransportRefusal(code)
+        );
+        assert_eq!(board.times(), [(1, 10)]);
+        tick(&mut board, 3_010);
+        assert_eq!(board.kept(), [(1, Swallowed)]);
+        tick(&mut board, 3_011);
+        assert!(board.kept().is_empty());
+    }
+}
+
+#[test]
+fn a_swallowed_middle_renews_its_own_source_alone() {
+    for data in [&[][..], &[0], &[0x20; 8]] {
+        let mut board = broken(0, 2_000);
+        assert_eq!(at(&mut board, 0, first(2), &[0x20]), Nothing);
+        assert_eq!(
+            at(&mut board, 0, single(2), &[0x20]),
+            TransportRefusal(0x2040)
+        );
+        assert_eq!(at(&mut board, 0, first(3), &[0x20]), Nothing);
+        for step in 1..=30 {
+            let time = 3_000 * step;
+            assert_eq!(at(&mut board, time, middle(1), data), Nothing);
+            // The others are there at 3,000 and gone at 6,000.
+            let mut expected = vec![(1, time), (2, 0), (3, 0)];
+            expected.truncate(if step == 1 { 3 } else { 1 });
+            assert_eq!(board.times(), expected);
+        }
+        let mut late = board.clone();
+        assert_eq!(at(&mut board, 93_000, last(1), data), Nothing);
+        assert!(board.kept().is_empty());
+        assert_eq!(
+            at(&mut late, 93_001, last(1), data),
+            TransportRefusal(0x2040)
+        );
+        assert!(late.kept().is_empty());
+    }
+}
+
+#[test]
+fn the_drop_comes_before_a_frame_of_a_source_being_swallowed() {
+    let cases = [
+        (single(1), &WRITE[..], WRITTEN, WRITTEN),
+        (first(1), &WRITE[..], Nothing, Nothing),
+        (middle(1), &[0], Nothing, TransportRefusal(0x2040)),
+        (middle(1), &[], Nothing, TransportRefusal(0x2040)),
+        (last(1), &WRITE[..], Nothing, TransportRefusal(0x2040)),
+    ];
+    for (header, data, in_time, late) in cases {
+        for (time, answer) in [(3_005, in_time), (3_006, late)] {
+            let mut board = broken(5, 6);
+            assert_eq!(at(&mut board, time, header, data), answer);
+            let kept = match header {
+                _ if header == first(1) => Some(Holds(WRITE.to_vec())),
+                _ if header == middle(1) && time == 3_005 => Some(Swallowed),
+                _ => None,
+            };
+            let times = kept.as_ref().map(|_| (1, time));
+            assert_eq!(board.times(), times.as_slice());
+            assert_eq!(board.kept(), kept.map(|book| (1, book)).as_slice());
+        }
+    }
+}
+
+#[test]
+fn what_is_ignored_does_not_renew_a_source_being_swallowed() {
+    for (header, data) in IGNORED {
+        let mut board = broken(7, 8);
+        assert_eq!(at(&mut board, 8, first(3), &[0x20]), Nothing);
+        for time in [8, 3_006, 3_007] {
+            assert_eq!(at(&mut board, time, header, data), Ignored);
+            assert_eq!(
+                board.kept(),
+                [(1, Swallowed), (3, Holds(hex("20")))],
+                "at {time}"
+            );
+            assert_eq!(board.times(), [(1, 7), (3, 8)]);
+        }
+        assert_eq!(at(&mut board, 3_008, header, data), Ignored);
+        assert_eq!(board.times(), [(3, 8)]);
+    }
+    // Nor do frames of other tools, lone ticks and whole datagrams.
+    let mut board = broken(0, 0);
+    for time in 0..=3_000 {
+        tick(&mut board, time);
+        board.datagram(&WRITE).unwrap();
+        assert_eq!(at(&mut board, time, single(2), &WRITE), WRITTEN);
+        assert_eq!(board.times(), [(1, 0)]);
+    }
+    tick(&mut board, 3_001);
+    assert!(board.kept().is_empty());
+}
+
+#[test]
+fn a_datagram_opened_after_swallowing_counts_from_its_own_first() {
+    let mut board = broken(0, 1_000);
+    assert_eq!(at(&mut board, 2_000, middle(1), &[0]), Nothing);
+    assert_eq!(at(&mut board, 5_000, first(1), &WRITE[..6]), Nothing);
+    assert_eq!(board.times(), [(1, 5_000)]);
+    let mut late = board.clone();
+    assert_eq!(at(&mut board, 8_000, last(1), &WRITE[6..]), WRITTEN);
+    assert_eq!(
+        at(&mut late, 8_001, last(1), &WRITE[6..]),
+        TransportRefusal(0x2040)
+    );
+}
+
+#[test]
+fn eight_abandoned_sources_being_swallowed_lock_nobody_out() {
+    for start in STARTS {
+        let mut board = Bench::demo();
+        for source in 1..=8 {
+            assert_eq!(at(&mut board, start, first(source), &[0x20]), Nothing);
+            assert_eq!(
+                at(&mut board, start, single(source), &[0x20]),
+                TransportRefusal(0x2040)
+            );
+        }
+        let all: Vec<_> = (1..=8).map(|source| (source, Swallowed)).collect();
+        assert_eq!(
+            at(&mut board, start + 3_000, first(9), &[0x20]),
+            TransportRefusal(0x2020)
+        );
+        assert_eq!(board.kept(), all);
+        for source in 9..=16 {
+            assert_eq!(
+                at(&mut board, start + 3_001, first(source), &[0x20]),
+                Nothing
+            );
+        }
+        let all: Vec<_> = (9..=16).map(|source| (source, Holds(hex("20")))).collect();
+        assert_eq!(board.kept(), all);
+    }
 }
 
 #[test]
@@ -496,9 +700,13 @@ fn a_refused_call_drops_nothing_and_renews_nothing() {
         (middle(1), &[0; 9]),
     ];
     let sound = board_with(&[(1, 0), (2, 0), (3, 5_000)]);
+    let swallowing = board_of(&[swallowed_at(1, 0), entry_at(2, 0), swallowed_at(3, 5_000)]);
     for (house_number, spoil) in SPOILED {
-        for time in [0, 3_000, 3_001, 5_000, 8_001, u64::MAX] {
-            let mut spoiled = sound.clone();
+        for (time, state) in [0, 3_000, 3_001, 5_000, 8_001, u64::MAX]
+            .into_iter()
+            .flat_map(|time| [(time, &sound), (time, &swallowing)])
+        {
+            let mut spoiled = state.clone();
             spoil(&mut spoiled);
             spoiled.time = time;
             for (header, data) in frames {
@@ -509,7 +717,13 @@ fn a_refused_call_drops_nothing_and_renews_nothing() {
         }
     }
     // What was refused has not renewed: the next call that is not refused drops.
-    let mut board = sound;
+    for board in [sound, swallowing] {
+        assert_refused_calls_do_not_renew(board);
+    }
+}
+
+/// Takes a board with tools 1 and 2 at time 0 and tool 3 at time 5,000.
+fn assert_refused_calls_do_not_renew(mut board: Bench) {
     board.reply.truncate(71);
     board.time = 2_000;
     assert_eq!(board.frame(middle(1), &[0x20]), Err(B6));
@@ -539,12 +753,16 @@ fn a_lone_tick_tests_neither_description_nor_reply_buffer() {
 #[test]
 fn a_lone_tick_tests_b7() {
     let bytes = [7; 72];
-    let damaged: [&[Unfinished]; 5] = [
+    let damaged: [&[Unfinished]; 9] = [
         &[entry(1, 73, &bytes)],
         &[entry(4_096, 0, &[])],
         &[entry_at(1, 0), entry_at(1, 9_000)],
         &[entry_at(1, 0), entry_at(2, 0), entry(3, usize::MAX, &bytes)],
         &[entry_at(65_535, 9_000), entry_at(2, 0), entry_at(3, 9_000)],
+        &[swallowed_at(4_096, 0)],
+        &[swallowed_at(1, 0), swallowed_at(1, 9_000)],
+        &[swallowed_at(1, 0), entry_at(2, 0), entry_at(1, 9_000)],
+        &[entry_at(1, 0), swallowed_at(2, 0), swallowed_at(1, 9_000)],
     ];
     for entries in damaged {
         // Where the damaged entry is itself due, and where another is.
@@ -567,7 +785,7 @@ fn the_demonstration_board_takes_times() {
     let mut reply = [FILL; 72];
     assert_eq!(board.frame(10, first(1), &[0x20], &mut reply), Ok(Nothing));
     assert_eq!(board.time(3_010), Ok(()));
-    assert_eq!(board.reception.unfinished_of(1), Some(&[0x20][..]));
+    assert_eq!(board.reception.kept_for(1), Kept::Bytes(&[0x20]));
     assert_eq!(
         board.frame(3_011, last(1), &[0xA8], &mut reply),
         Ok(TransportRefusal(0x2040))
@@ -577,7 +795,7 @@ fn the_demonstration_board_takes_times() {
         Ok(Nothing)
     );
     assert_eq!(board.time(6_012), Ok(()));
-    assert_eq!(board.reception.unfinished_of(1), None);
+    assert_eq!(board.reception.kept_for(1), Kept::Nothing);
     assert_eq!(handle_time(&mut Reception::new(), u64::MAX), Ok(()));
 }
 
@@ -588,24 +806,48 @@ fn times_in_any_order() {
     let mut numbers = Numbers(0x2545_F491_4F6C_DD1D);
     let mut dropped = 0;
     for _ in 0..2_000 {
-        let mut listed: Vec<(u16, u64)> = (1..=numbers.below(9) as u16)
-            .map(|source| (source, u64::from(numbers.below(10_000))))
+        // Sources, times, and whether the source is being swallowed.
+        let mut listed: Vec<(u16, u64, bool)> = (1..=numbers.below(9) as u16)
+            .map(|source| {
+                let time = u64::from(numbers.below(10_000));
+                (source, time, numbers.below(3) == 0)
+            })
             .collect();
-        let mut board = board_with(&listed);
+        let entries: Vec<_> = listed
+            .iter()
+            .map(|&(source, time, swallowed)| Unfinished {
+                swallowed,
+                ..entry_at(source, time)
+            })
+            .collect();
+        let mut board = board_of(&entries);
         // So few frames that no datagram goes past 72 bytes.
         for _ in 0..70 {
             let time = u64::from(numbers.below(14_000));
             let before = listed.len();
-            listed.retain(|&(_, accepted)| time <= accepted + 3_000);
+            listed.retain(|&(_, accepted, _)| time <= accepted + 3_000);
             dropped += before - listed.len();
             let source = 1 + numbers.below(10) as u16;
             let found = listed.iter().position(|entry| entry.0 == source);
-            match (numbers.below(4), found) {
+            match (numbers.below(6), found) {
                 (0, _) => tick(&mut board, time),
                 (1, Some(found)) => {
                     let answer = at(&mut board, time, last(u32::from(source)), &[]);
-                    assert!(matches!(answer, Handled(_)));
-                    listed.remove(found);
+                    let (_, _, swallowed) = listed.remove(found);
+                    assert_eq!(matches!(answer, Handled(_)), !swallowed);
+                    assert_eq!(answer == Nothing, swallowed);
+                }
+                // Breaks a datagram, or opens one where the source is being swallowed.
+                (2, Some(found)) => {
+                    let answer = at(&mut board, time, first(u32::from(source)), &[]);
+                    let (_, accepted, swallowed) = &mut listed[found];
+                    if *swallowed {
+                        assert_eq!(answer, Nothing);
+                        *accepted = time;
+                    } else {
+                        assert_eq!(answer, TransportRefusal(0x2040));
+                    }
+                    *swallowed = !*swallowed;
                 }
                 (_, Some(found)) => {
                     let answer = at(&mut board, time, middle(u32::from(source)), &[0x20]);
@@ -615,12 +857,18 @@ fn times_in_any_order() {
                 (_, None) if listed.len() < 8 => {
                     let answer = at(&mut board, time, first(u32::from(source)), &[]);
                     assert_eq!(answer, Nothing);
-                    listed.push((source, time));
+                    listed.push((source, time, false));
                 }
                 _ => assert_eq!(at(&mut board, time, 0, &[]), Ignored),
             }
             listed.sort_unstable();
-            assert_eq!(board.times(), listed);
+            let mut kept: Vec<_> = board
+                .reception
+                .unfinished()
+                .map(|entry| (entry.source, entry.last_accepted, entry.swallowed))
+                .collect();
+            kept.sort_unstable();
+            assert_eq!(kept, listed);
         }
     }
     assert!(dropped > 10_000, "{dropped}");

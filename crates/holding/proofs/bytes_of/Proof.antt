@@ -8,12 +8,12 @@ use Rattle.holding.proofs.bytes_of.Statement.{statement}
 use Rattle.holding.proofs.bytes_of.Tie as tie
 
 -- a bool as a byte
-held-byte : (b : Bool) → boolByte b ≡ cond b 1 0
-held-byte true = refl
-held-byte false = refl
+truth-byte : (b : Bool) → boolByte b ≡ cond b 1 0
+truth-byte true = refl
+truth-byte false = refl
 
 returns : tie.Need-returns
-returns c = rw (held-byte (c .args .held))
+returns c = rw (truth-byte (c .args .held), truth-byte (c .args .swallowing))
 
 pub bytes-of-spec : {M : Type 1} → statement M
-bytes-of-spec = tie.close (tie.spec (λ c. search needs) (λ c. search needs) (λ c. search needs) (λ c. search needs) (λ c. search needs) returns)
+bytes-of-spec = tie.close (tie.spec (λ c. search needs) (λ c. search needs) (λ c. search needs) (λ c. search needs) (λ c. search needs) (λ c. search needs) returns)

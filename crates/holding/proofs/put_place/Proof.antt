@@ -15,7 +15,7 @@ use Rattle.holding.proofs.put_place.Tie as tie
 returns : tie.Need-returns
 returns c =
     let a = c .before .before .args in
-    placed-not (8 * a .i) (placeBytes (place (a .held) (a .len) (a .source) (a .tick))) (a .places .now) (omega arith)
+    placed-not (8 * a .i) (placeBytes (place (a .held) (a .len) (a .source) (a .tick) (a .swallowing))) (a .places .now) (omega arith)
 
 returns-2 : tie.Need-returns-2
 returns-2 c =

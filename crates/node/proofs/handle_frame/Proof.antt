@@ -10,7 +10,7 @@ use Rattle.reception.specs.PlaceBytes.{stateIn}
 use Rattle.reception.proofs.ByteLaws.{renewed-same}
 use Rattle.handling.specs.Handling.{fixed, contents}
 use Rattle.call.proofs.DatagramLaws.{by-sizes, house-buffer}
-use Rattle.call.proofs.CallLaws.{call-refused, node-order, node-aging}
+use Rattle.call.proofs.CallLaws.{call-refused, node-order, node-aging, node-rejection}
 use Rattle.node.proofs.FrameLaws.{call-joined, call-keeps, call-small, call-changes}
 use borrow.Author.Needs.{needs}
 use Rattle.node.proofs.handle_frame.Statement.{statement}
@@ -23,7 +23,7 @@ returns c =
     let x = fixed (a .alias) (a .write-lengths) (spacesIn (a .spaces .now)) (a .flash .now) in
     let e = call-refused x (a .out .now) (a .tick) (stateIn (a .places .now) (a .pool .now)) (contents (a .memory .now) (a .lock .now)) (canFrame (a .header) (a .payload .now))
     (by-sizes x (a .memory .now) (a .out .now) (k .ensures .0)) (tested-bad (k .result) (c .before .is-good .ensures) (c .if1 .taken)) in
-    (rw e (record { answer = refl; reply = refl; memory = refl; lock = refl; short = tt }), (rw e (record { places = refl; renewal = renewed-same (a .places .now); pool = refl }), (tt, (refl, (node-order x, node-aging x)))))
+    (rw e (record { answer = refl; reply = refl; memory = refl; lock = refl; short = tt }), (rw e (record { places = refl; renewal = renewed-same (a .places .now); pool = refl }), (tt, (refl, (node-order x, (node-aging x, node-rejection x))))))
 
 answer-outcome-requires : tie.Need-answer-outcome-requires
 answer-outcome-requires c κs =
@@ -44,7 +44,7 @@ returns-2 c =
     let g = ap isGood (sym (by-sizes x (a .memory .now) (a .out .now) (k .ensures .0))) ∙ tested-good (k .result) (c .before .before .before .before .before .before .before .before .before .before .before .before .before .before .is-good .ensures) (c .before .before .before .before .before .before .before .before .before .before .before .before .before .if1 .left) in
     let p = c .before .before .before .before .answer-outcome .ensures (receive (a .alias) (a .tick) st f .state) in
     let j = c .before .before .before .before .before .before .before .before .before .before .join .ensures in
-    (rw (call-joined x (a .out .now) (a .tick) st w f g j) p, (call-keeps x (a .out .now) (a .tick) st w f g j, (call-small x (a .out .now) (a .tick) st w f g j p, (call-changes x (a .out .now) (a .tick) st w f g j p, (node-order x, node-aging x)))))
+    (rw (call-joined x (a .out .now) (a .tick) st w f g j) p, (call-keeps x (a .out .now) (a .tick) st w f g j, (call-small x (a .out .now) (a .tick) st w f g j p, (call-changes x (a .out .now) (a .tick) st w f g j p, (node-order x, (node-aging x, node-rejection x))))))
 
 pub handle-frame-spec : {M : Type 1} → statement M
 handle-frame-spec =

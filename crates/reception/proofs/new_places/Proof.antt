@@ -5,12 +5,13 @@ use Rattle.reception.specs.Reception.{isFor}
 use Rattle.reception.specs.PlaceBytes.{placesIn}
 use Rattle.reception.proofs.Order.{join-order}
 use Rattle.reception.proofs.Aging.{join-aging}
+use Rattle.reception.proofs.Swallowing.{join-rejection}
 use Rattle.reception.proofs.new_places.Statement.{statement}
 use Rattle.reception.proofs.new_places.Tie as tie
 
 returns : tie.Need-returns
 unfolding isFor placesIn
-returns c = (refl, (refl, (λ pool s. refl, (join-order, join-aging))))
+returns c = (refl, (refl, (λ pool s. refl, (join-order, (join-aging, join-rejection)))))
 
 pub new-places-spec : {M : Type 1} → statement M
 new-places-spec = tie.close (tie.spec returns)

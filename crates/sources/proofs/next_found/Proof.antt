@@ -14,14 +14,14 @@ returns : tie.Need-returns
 returns c =
     let a = c .before .before .args in
     let ps = placesIn (a .places .now) in
-    sym (next-bad (a .source) (take (a .i) ps) (getD ps (a .i) freePlace) (a .i) (a .found) (sym (c .before .is-sound-at .ensures) ∙ not-true _ (c .if1 .taken)))
+    sym (next-bad (a .plain) (a .source) (take (a .i) ps) (getD ps (a .i) freePlace) (a .i) (a .found) (sym (c .before .passes .ensures) ∙ not-true _ (c .if1 .taken)))
 
 returns-2 : tie.Need-returns-2
 returns-2 c =
     let e = c .before .before in
     let a = e .before .before .args in
     let ps = placesIn (a .places .now) in
-    sym (next-here (a .source) (take (a .i) ps) (getD ps (a .i) freePlace) (a .i) (a .found) (sym (e .before .is-sound-at .ensures) ∙ not-false _ (e .if1 .left))
+    sym (next-here (a .plain) (a .source) (take (a .i) ps) (getD ps (a .i) freePlace) (a .i) (a .found) (sym (e .before .passes .ensures) ∙ not-false _ (e .if1 .left))
     (sym (c .before .is-for .ensures) ∙ c .if2 .taken))
 
 returns-3 : tie.Need-returns-3
@@ -29,7 +29,7 @@ returns-3 c =
     let e = c .before .before in
     let a = e .before .before .args in
     let ps = placesIn (a .places .now) in
-    sym (next-else (a .source) (take (a .i) ps) (getD ps (a .i) freePlace) (a .i) (a .found) (sym (e .before .is-sound-at .ensures) ∙ not-false _ (e .if1 .left))
+    sym (next-else (a .plain) (a .source) (take (a .i) ps) (getD ps (a .i) freePlace) (a .i) (a .found) (sym (e .before .passes .ensures) ∙ not-false _ (e .if1 .left))
     (sym (c .before .is-for .ensures) ∙ c .if2 .left))
 
 pub next-found-spec : {M : Type 1} → statement M

@@ -6,7 +6,7 @@
 use super::{Flag, Places, Pool};
 
 /// The version of the edge that this module is written for.
-pub const VERSION: u32 = 0x0001_0000;
+pub const VERSION: u32 = 0x0002_0000;
 
 /// What comes of writing a command.
 #[derive(Clone, Copy, Debug, PartialEq, Eq)]
@@ -114,8 +114,8 @@ pub struct Reply {
 #[derive(Clone, Copy, Debug, PartialEq, Eq)]
 #[repr(C)]
 pub struct Joined {
-    /// Which of the others count: 0 the state is damaged, 1 ignored, 2 joined, 3 refused, 4 a
-    /// datagram that is the frame's data, 5 a datagram in the pool.
+    /// Which of the others count: 0 the state is damaged, 1 ignored, 2 joined or swallowed, 3
+    /// refused, 4 a datagram that is the frame's data, 5 a datagram in the pool.
     pub kind: u32,
     /// The code, for kind 3.
     pub code: u16,

@@ -204,9 +204,9 @@ cases! {
     JoinIgnored = "join, ignored", Small;
     /// For a tool that can have no frame.
     JoinWide = "join, alias over 4,095", Small;
-    /// Joined.
+    /// Joined or swallowed.
     JoinPart = "join, joined", Small;
-    /// Joined for a tool that has an alias that no board can have.
+    /// The same for a tool that has an alias that no board can have.
     JoinZero = "join, joined for alias 0", Small;
     /// Out of order.
     Join2040 = "join, 0x2040", Small;
@@ -228,6 +228,16 @@ cases! {
     JoinDropped = "join, dropped by its tick", Small;
     /// One was kept with a tick that a caller has put there.
     JoinOtherTick = "join, kept with a tick not 0", Small;
+    /// A datagram is broken: its board is being swallowed.
+    JoinBroken = "join, broken", Small;
+    /// A Middle is swallowed.
+    JoinSwallowed = "join, Middle swallowed", Small;
+    /// A Last is swallowed.
+    JoinLastSwallowed = "join, Last swallowed", Small;
+    /// A Single of a board that was being swallowed.
+    JoinSingleAfter = "join, Single, its board swallowed", Small;
+    /// A First of such a board.
+    JoinFirstAfter = "join, First, its board swallowed", Small;
 }
 
 /// The kinds of request, in the order of the counts.

@@ -12,13 +12,14 @@ use crate::generate::{
     any_held, damage_places, rewrite_places, sound_places, tools, Board, Incoming, Tool, LAST_ALIAS,
 };
 use crate::guarded::Guarded;
+use crate::joining::FIRST;
 use crate::layout::{self, any_place, set_place, Entry};
 use crate::random::Random;
-use crate::setup::{compare_places, hex, in_order, same};
-use crate::times::{any_age, any_due, GREATEST_AGE, ROUND};
+use crate::setup::{compare_places, hex, in_order, same, Changes};
+use crate::times::{any_age, any_due, is_due, GREATEST_AGE, ROUND};
 use crate::tool::cases::{ToolCase, ToolTally};
 use crate::tool::Archive;
-use model::{FrameAnswer, HouseNumber, Reception};
+use model::{FrameAnswer, HouseNumber, Kept, Reception};
 
 /// The tick that a frame comes at.
 const TICK: u16 = 0;
@@ -32,7 +33,7 @@ pub enum Outcome {
     Damaged,
     /// The frame is ignored.
     Ignored,
-    /// The frame is joined.
+    /// The frame is joined or swallowed.
     Part,
     /// The frame is refused with this code.
     Refused(u16),
@@ -61,7 +62,7 @@ impl Joiner {
         }
     }
 
-    /// Whether a datagram is unfinished.
+    /// Whether something is unfinished.
     #[must_use]
     pub fn is_busy(&self) -> bool {
         layout::unfinished(self.places.array(), self.pool.bytes()).count() != 0
@@ -93,8 +94,11 @@ impl Joiner {
         }
         let turned = turned(self.alias);
         let header = frame.header ^ (u32::from(turned) << 12 | u32::from(turned));
-        let held = self.model.unfinished_of(model::source_of(header));
-        let held = held.map(<[u8]>::to_vec);
+        let held = match self.model.kept_for(model::source_of(header)) {
+            Kept::Bytes(bytes) => bytes.to_vec(),
+            // A Single counts as if nothing were unfinished.
+            Kept::Nothing | Kept::Swallowed => Vec::new(),
+        };
         let board = model::Description {
             alias: self.alias ^ turned,
             write_lengths: 0,
@@ -118,11 +122,7 @@ impl Joiner {
             Ok(FrameAnswer::Ignored) => Outcome::Ignored,
             Ok(FrameAnswer::Nothing) => Outcome::Part,
             Ok(FrameAnswer::TransportRefusal(code)) => Outcome::Refused(code),
-            Ok(FrameAnswer::Handled(_)) => {
-                let mut whole = held.unwrap_or_default();
-                whole.extend_from_slice(&frame.data);
-                Outcome::Finished(whole)
-            }
+            Ok(FrameAnswer::Handled(_)) => Outcome::Finished([held, frame.data.clone()].concat()),
         }
     }
 
@@ -159,7 +159,7 @@ impl Joiner {
                 hex(self.pool.bytes())
             ));
         }
-        self.count(numbers, &expected, &places, tally);
+        self.count(frame, numbers, &expected, &places, tally);
         Ok(expected)
     }
 
@@ -220,8 +220,13 @@ impl Joiner {
                 "a frame that is not joined changed the state",
             )?;
         } else {
+            let changes = match expected {
+                Outcome::Damaged | Outcome::Ignored => Changes::Nothing,
+                Outcome::Refused(_) => Changes::Place,
+                Outcome::Part | Outcome::Finished(_) => Changes::PlaceAndPool,
+            };
             // What a board's places have to go through is not counted here.
-            compare_places(before, after, TICK, usize::from(joined), |_| ())?;
+            compare_places(before, after, TICK, changes, |_| ())?;
         }
         let unfinished = turn(self.alias, layout::unfinished(after.0, after.1));
         same(
@@ -234,11 +239,21 @@ impl Joiner {
         )
     }
 
-    fn count(&self, numbers: Joined, expected: &Outcome, before: &Places, tally: &mut ToolTally) {
+    fn count(
+        &self,
+        frame: &Incoming,
+        numbers: Joined,
+        expected: &Outcome,
+        before: &Places,
+        tally: &mut ToolTally,
+    ) {
         if *expected != Outcome::Damaged {
             let mut kept = layout::unfinished(self.places.array(), self.pool.bytes());
             tally.count_if(any_due(before, TICK), ToolCase::JoinDropped);
             tally.count_if(kept.any(|at| at.tick != TICK), ToolCase::JoinOtherTick);
+        }
+        if !matches!(expected, Outcome::Damaged | Outcome::Ignored) {
+            self.count_swallowed(frame, expected, before, tally);
         }
         tally.count(match expected {
             Outcome::Damaged => ToolCase::JoinDamaged,
@@ -256,6 +271,32 @@ impl Joiner {
             Outcome::Finished(_) => ToolCase::JoinInFrame,
         });
     }
+
+    /// Counts what is to be seen of a frame whose source was being swallowed, or is from now on.
+    fn count_swallowed(
+        &self,
+        frame: &Incoming,
+        expected: &Outcome,
+        before: &Places,
+        tally: &mut ToolTally,
+    ) {
+        let source = frame.header & 0xFFF;
+        let is = is_swallowed(self.places.array(), source);
+        match (is_swallowed(before, source), expected, frame.header >> 24) {
+            (false, ..) => tally.count_if(is, ToolCase::JoinBroken),
+            (true, Outcome::Finished(_), _) => tally.count(ToolCase::JoinSingleAfter),
+            (true, _, FIRST) => tally.count(ToolCase::JoinFirstAfter),
+            (true, ..) if is => tally.count(ToolCase::JoinSwallowed),
+            (true, ..) => tally.count(ToolCase::JoinLastSwallowed),
+        }
+    }
+}
+
+/// Whether this source is being swallowed, in places of which what is due does not count.
+fn is_swallowed(places: &Places, source: u32) -> bool {
+    (0..PLACES)
+        .filter_map(|index| layout::held(layout::place(places, index)))
+        .any(|held| held.swallowing && !is_due(held, TICK) && u32::from(held.source) == source)
 }
 
 /// The bit of an alias that is turned over for the model.
@@ -263,7 +304,7 @@ const fn turned(alias: u16) -> u16 {
     (alias == 0) as u16
 }
 
-/// Unfinished datagrams as the model is given them.
+/// What is unfinished as the model is given it.
 fn turn<'p>(
     alias: u16,
     entries: impl Iterator<Item = Entry<'p>>,
@@ -357,8 +398,8 @@ impl Listener {
     }
 }
 
-/// Places with nothing unfinished, with some datagrams of these boards, or with as many as there may
-/// be where there are more boards than that; with tick 0, or of any age.
+/// Places with nothing unfinished, with something of these boards, or with as much as there may be
+/// where there are more boards than that; with tick 0, or of any age.
 fn places(random: &mut Random, boards: &[Tool]) -> Places {
     let oldest = random.pick(&[0, 0, GREATEST_AGE, u16::MAX]);
     match random.below(4) {

@@ -409,8 +409,8 @@ fn incoming(frame: Frame) -> Incoming {
     }
 }
 
-/// Loses a frame, or sends one twice. A Last is not lost: what it would leave unfinished would stay
-/// with the board for good.
+/// Loses a frame, or sends one twice. A Last is not lost: what it would leave unfinished would be
+/// in the way of others until it is too old.
 fn lose_or_repeat(random: &mut Random, frames: &mut Vec<Incoming>) {
     let index = random.below(frames.len());
     if random.once_in(2) && index + 1 < frames.len() {

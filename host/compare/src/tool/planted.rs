@@ -5,6 +5,7 @@ use crate::ffi::tool::{Acknowledged, Bytes, Composed, Joined, Rejection, Reply};
 use crate::ffi::{Flag, Places, Pool};
 use crate::generate::good_board;
 use crate::guarded::Guarded;
+use crate::joining::LAST;
 use crate::layout::Held;
 use crate::planted::{each, keep_ticks, put_back};
 use crate::random::Random;
@@ -83,10 +84,13 @@ enum Fault {
     OldKept,
     OldKeptWhereIgnored,
     TickKeptWhereJoined,
+    BrokenFreed,
+    SwallowedRefused,
+    KeptAfterLast,
 }
 
 /// All of them, and how the report on each begins.
-const FAULTS: [(Fault, &str); 59] = [
+const FAULTS: [(Fault, &str); 62] = [
     (Fault::Byte6ForFd, WRITTEN),
     (Fault::W2BeforeW1, WRITTEN),
     (Fault::W2OnlyWhereItDoesNotFit, WRITTEN),
@@ -146,6 +150,9 @@ const FAULTS: [(Fault, &str); 59] = [
     (Fault::OldKept, OLD),
     (Fault::OldKeptWhereIgnored, OLD),
     (Fault::TickKeptWhereJoined, TICKS),
+    (Fault::BrokenFreed, UNFINISHED),
+    (Fault::SwallowedRefused, JOINED),
+    (Fault::KeptAfterLast, UNFINISHED),
 ];
 const WRITTEN: &str = "writing a command: the answers differ";
 const BUFFERS: &str = "writing a command: the buffers differ";
@@ -159,6 +166,7 @@ const HELD: &str = "joining a frame: the pool is changed for a place that did no
 const STATE: &str = "joining a frame: a frame that is not joined changed the state";
 const OLD: &str = "joining a frame: a place with something due is not dropped";
 const TICKS: &str = "joining a frame: a place that changed has another tick than the call";
+const UNFINISHED: &str = "joining a frame: the unfinished datagrams differ";
 
 const YES: Flag = Flag::of(true);
 const NO: Flag = Flag::of(false);
@@ -393,6 +401,14 @@ impl Archive for Planted {
             (Fault::OutOfOrderAsTooLong, 3) if joined.code == 0x2040 => joined.code = 0x2000,
             (Fault::DamagedAsIgnored, 0) => joined.kind = 1,
             (Fault::PoolChangedWhereIgnored, 1) => pool[575] ^= 1,
+            (Fault::BrokenFreed, 3) => each(places, |held| {
+                let broken = u32::from(held.source) == header & 0xFFF;
+                (!broken).then_some(held)
+            }),
+            (Fault::SwallowedRefused, 2) if *places == before => {
+                (joined.kind, joined.code) = (3, 0x2040);
+            }
+            (Fault::KeptAfterLast, 2) if header >> 24 == LAST => *places = before,
             _ => {}
         }
         joined

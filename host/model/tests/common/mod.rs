@@ -4,7 +4,7 @@
 
 use model::{
     demo_board, handle_datagram, handle_frame, handle_time, Answer, Description, FrameAnswer,
-    HouseNumber, Reception, Space, Unfinished,
+    HouseNumber, Kept, Reception, Space, Unfinished,
 };
 
 /// What fills a reply buffer before a call.
@@ -43,6 +43,14 @@ pub const fn in_flash(space: Space) -> Space {
         in_flash: true,
         ..space
     }
+}
+
+/// What a book has, or what the reception state has for a source. A book that is blank, and a
+/// source for which nothing is kept, have none.
+#[derive(Clone, Debug, PartialEq, Eq, PartialOrd, Ord)]
+pub enum Book {
+    Holds(Vec<u8>),
+    Swallowed,
 }
 
 /// A board whose every part may be set.
@@ -190,16 +198,29 @@ impl Bench {
     }
 
     /// The entries of the reception state, sorted.
-    pub fn kept(&self) -> Vec<(u16, Vec<u8>)> {
+    pub fn kept(&self) -> Vec<(u16, Book)> {
         let mut kept: Vec<_> = self
             .reception
             .unfinished()
             .map(|entry| {
                 assert_eq!(entry.length, entry.bytes.len());
-                (entry.source, entry.bytes.to_vec())
+                let book = if entry.swallowed {
+                    assert_eq!(entry.length, 0);
+                    Book::Swallowed
+                } else {
+                    Book::Holds(entry.bytes.to_vec())
+                };
+                (entry.source, book)
             })
             .collect();
         kept.sort();
+        for (source, book) in &kept {
+            let alone = match book {
+                Book::Holds(bytes) => Kept::Bytes(bytes),
+                Book::Swallowed => Kept::Swallowed,
+            };
+            assert_eq!(self.reception.kept_for(*source), alone);
+        }
         kept
     }
 }
@@ -210,6 +231,15 @@ pub fn entry(source: u16, length: usize, bytes: &[u8]) -> Unfinished<'_> {
         length,
         bytes,
         last_accepted: 0,
+        swallowed: false,
+    }
+}
+
+/// An entry for a source that is being swallowed.
+pub fn swallowed(source: u16) -> Unfinished<'static> {
+    Unfinished {
+        swallowed: true,
+        ..entry(source, 0, &[])
     }
 }
 

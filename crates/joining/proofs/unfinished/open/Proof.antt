@@ -8,14 +8,14 @@ use Rattle.joining.proofs.unfinished.open.Tie as tie
 returns : tie.Need-returns
 returns c =
     let a = c .before .before .before .before .before .args in
-    open-full (a .source) (a .payload .now) (a .tick) (a .pool .now) (a .places .now) (c .before .find-free .result) (c .before .find-free .ensures) (c .if1 .taken)
+    open-full (a .source) (a .i) (a .payload .now) (a .tick) (a .pool .now) (a .places .now) (c .before .room-for .result) (c .before .room-for .ensures) (c .if1 .taken)
 
 returns-2 : tie.Need-returns-2
 returns-2 c =
     let n = c .before .before .before .before .before .before .before in
     let e = n .before .before .before .before in
     let a = e .args in
-    open-done (a .source) (a .payload .now) (a .tick) (a .pool .now) (a .places .now) (n .find-free .result) (n .find-free .ensures) (e .pre) _ _
+    open-done (a .source) (a .i) (a .payload .now) (a .tick) (a .pool .now) (a .places .now) (n .room-for .result) (n .room-for .ensures) (e .pre .0) (e .pre .1) _ _
     (record { inside = search needs; size = search needs; bytes = c .hold .ensures }) (c .before .before .before .before .put .ensures)
 
 pub open-spec : {M : Type 1} → statement M
