@@ -142,6 +142,10 @@ pub record Dated (P : ℕ → Type 0) (last : ℕ → ℕ) (now : ℕ) (p : Plac
   pub young : now ≤ last (p .source) + 3000
   pub kept : P (last (p .source))
 
+-- where any time will do
+abbrev pub AnyTime : ℕ → Type 0
+AnyTime t = Unit {0}
+
 -- the same of each place that is held
 abbrev pub AllDated : (ℕ → Type 0) → (ℕ → ℕ) → ℕ → List Place → Type 0
 AllDated P last now ps = Each (λ (p : Place). p .held ≡ true → Dated P last now p) ps

@@ -22,12 +22,9 @@ use Rattle.reception.specs.Aging.{isHouse, acceptsFrame, Unrefused, acce
 use Rattle.reception.specs.Swallowing.{roleFrom, dataIn, Swallowed, Quiet, OneRejection, JoinRejection}
 use Rattle.reception.proofs.PlaceLaws.{sound-good}
 use Rattle.reception.proofs.StepLaws.{Step, entryOf}
-use Rattle.reception.proofs.DropLaws.{unfinished-due}
+use Rattle.reception.proofs.DropLaws.{AnyTime, unfinished-due}
 use Rattle.reception.proofs.InputLaws.{taken, input-is, frame-step, unrefused-sound, answered-state}
 use Rattle.reception.proofs.Aging.{Left, later, call-left, ready, always}
-
-abbrev AnyTime : ℕ → Type 0
-AnyTime t = Unit {0}
 
 -- ---- what is refused
 

@@ -63,35 +63,39 @@ held-there xs i u =
     (λ q. ltb-true i 8 q)
     (λ q. clash (sym u ∙ ap (λ (p : Place). p .held) (at-none xs i (ltb-false i 8 q))))
 
-and-three : (a b c : Bool) → a && (b && c) ≡ (a && b) && c
-and-three true b c = refl
-and-three false b c = refl
-
 module _ (ps : List Place) (p : Place) where
+  -- a place that may be held with its length is plain where no other is of its source
+  length-sound : leb (p .len) 72 ≡ true → soundBeside ps p ≡ (leb (p .source) 4095 && not (hasPlace (p .source) ps))
+  length-sound l = rw (l, or-true (p .swallowing))
+
   pub plain-free : p .held ≡ false → true ≡ (not (p .held) || plainBeside ps p)
   plain-free u = rw u
 
   module _ (u : p .held ≡ true) where
     pub plain-not : (leb (p .len) 72 && leb (p .source) 4095) ≡ false → false ≡ (not (p .held) || plainBeside ps p)
-    plain-not e = rw (u, and-three (leb (p .len) 72) (leb (p .source) 4095) (not (hasPlace (p .source) ps)), e)
+    plain-not e =
+        by-test (leb (p .len) 72)
+        (λ l. let s : leb (p .source) 4095 ≡ false = rw l at e in rw (u, length-sound l, l, s))
+        (λ l. rw (u, l))
 
     pub plain-alone : (leb (p .len) 72 && leb (p .source) 4095) ≡ true → not (hasPlace (p .source) ps) ≡ (not (p .held) || plainBeside ps p)
-    plain-alone e = rw (u, and-three (leb (p .len) 72) (leb (p .source) 4095) (not (hasPlace (p .source) ps)), e)
+    plain-alone e =
+        let l = and-left (leb (p .len) 72) (leb (p .source) 4095) e in
+        rw (u, length-sound l, l, and-right (leb (p .len) 72) (leb (p .source) 4095) e)
 
   -- B7 asks less
   pub plain-sound : (not (p .held) || plainBeside ps p) ≡ true → true ≡ (not (p .held) || soundBeside ps p)
-  plain-sound e =
-      by-test (p .held)
-      (λ u. let b : plainBeside ps p ≡ true = rw u at e in
-      rw (u, and-left (leb (p .len) 72) _ b, or-true (p .swallowing), and-right (leb (p .len) 72) _ b))
-      (λ u. rw u)
+  plain-sound e = by-test (p .held) (λ u. rw (u, and-right (leb (p .len) 72) (soundBeside ps p) (rw u at e))) (λ u. rw u)
 
   module _ (n : (not (p .held) || plainBeside ps p) ≡ false) where
     pub held-not-plain : p .held ≡ true
     held-not-plain = by-test (p .held) (λ u. u) (λ u. clash (rw u at n))
 
+    -- a place that holds a datagram is refused by B7
     pub sound-not : p .swallowing ≡ false → false ≡ (not (p .held) || soundBeside ps p)
-    sound-not w = let u = held-not-plain in rw (u, w) (sym (rw u at n))
+    sound-not w =
+        let u = held-not-plain in
+        by-test (leb (p .len) 72) (λ l. rw (u, l) (sym (rw (u, l) at n))) (λ l. rw (u, w, l))
 
     pub sound-large : p .swallowing ≡ true → leb (p .source) 4095 ≡ false → false ≡ (not (p .held) || soundBeside ps p)
     sound-large w l = rw (held-not-plain, w, l)
