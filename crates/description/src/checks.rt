@@ -30,7 +30,7 @@ fn pass_quickly(table: &[u8], flash_len: usize, memory_len: usize) -> bool
     let mut i = 0;
     while i < count {
         let space = table::space_at(table, i);
-        if !house::is_window_good(space, flash_len, memory_len) {
+        if !inspection::is_window_good(space, flash_len, memory_len) {
             return false;
         }
         let marked = marks | 1u64 << (space.number % 64);
@@ -53,7 +53,7 @@ fn check_each(table: &[u8], flash_len: usize, memory_len: usize) -> HouseNumber
     while i < count {
         let position = i as u8;
         let space = table::space_at(table, i);
-        let house = house::check_window(space, position, flash_len, memory_len);
+        let house = inspection::check_window(space, position, flash_len, memory_len);
         if !house::is_good(house) {
             return house;
         }

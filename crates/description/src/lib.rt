@@ -12,7 +12,7 @@ ghost use Rattle.description.specs.Calls.{callHouse};
 fn check_description(alias: u16, spaces: &[u8], flash_len: usize, memory_len: usize) -> HouseNumber
     ensures { λ r. ⌜ r ≡ descriptionHouse alias (spacesIn (now (spaces .entry))) «flash_len» «memory_len» ⌝ }
 {
-    let house = house::check_limits(table::space_count(spaces), memory_len, flash_len, alias);
+    let house = inspection::check_limits(table::space_count(spaces), memory_len, flash_len, alias);
     if !house::is_good(house) {
         return house;
     }

@@ -24,8 +24,8 @@ fn position_number(position: Position) -> u8
 fn of_house(house: HouseNumber, frame_count: usize) -> Words
     ensures { λ r. ⌜ fieldsOf r ≡ inBytes (houseResult house «frame_count») ⌝ }
 {
-    let position = position_number(house::position_of(house));
-    words::of_refusal(house::number_of(house), position, frame_count)
+    let position = position_number(refusals::position_of(house));
+    words::of_refusal(refusals::number_of(house), position, frame_count)
 }
 
 fn of_answer(answer: Answer, frame_count: usize) -> Words

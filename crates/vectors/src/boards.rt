@@ -18,8 +18,8 @@ pub fn print_house(house: HouseNumber) {
         return;
     }
     crate::output::print(b"refused by B");
-    crate::output::print_decimal(house::number_of(house));
-    print_position(house::position_of(house));
+    crate::output::print_decimal(refusals::number_of(house));
+    print_position(refusals::position_of(house));
 }
 
 // A byte of the line; 0 where it ends before.

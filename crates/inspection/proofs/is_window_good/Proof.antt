@@ -2,10 +2,10 @@
 -- Assumes nothing.
 use mathlib.Core.Path.{ap, _∙_}
 use borrow.Author.Needs.{needs}
 use Rattle.house.specs.HouseNumbers.{isGood}
 use Rattle.house.proofs.Laws.{window-anywhere}
-use Rattle.house.proofs.is_window_good.Statement.{statement}
-use Rattle.house.proofs.is_window_good.Tie as tie
+use Rattle.inspection.proofs.is_window_good.Statement.{statement}
+use Rattle.inspection.proofs.is_window_good.Tie as tie
 
 returns : tie.Need-returns
 returns c =

@@ -1,8 +1,8 @@
 -- `position_of` meets its contract: each case by its name, and its position where it brings one.
 -- Assumes nothing.
 use borrow.Author.Needs.{needs}
-use Rattle.house.proofs.position_of.Statement.{statement}
-use Rattle.house.proofs.position_of.Tie as tie
+use Rattle.refusals.proofs.position_of.Statement.{statement}
+use Rattle.refusals.proofs.position_of.Tie as tie
 
 returns-6 : tie.Need-returns-6
 returns-6 c = rw (c .before .house .given .1)

@@ -1,8 +1,8 @@
 -- `check_limits` meets its contract: each answer by the tests that lead to it.
 -- Assumes nothing.
 use borrow.Author.Tests.{lt-ltb, le-ltb, eq-eqb, ne-eqb}
-use Rattle.house.proofs.check_limits.Statement.{statement}
-use Rattle.house.proofs.check_limits.Tie as tie
+use Rattle.inspection.proofs.check_limits.Statement.{statement}
+use Rattle.inspection.proofs.check_limits.Tie as tie
 
 returns : tie.Need-returns
 returns c = simp (lt-ltb 16 _ (c .if1 .taken))

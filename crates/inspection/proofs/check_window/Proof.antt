@@ -2,8 +2,8 @@
 -- Assumes nothing.
 use borrow.Author.Tests.{lt-ltb, le-ltb, eq-eqb, ne-eqb}
 use borrow.Author.Needs.{needs}
-use Rattle.house.proofs.check_window.Statement.{statement}
-use Rattle.house.proofs.check_window.Tie as tie
+use Rattle.inspection.proofs.check_window.Statement.{statement}
+use Rattle.inspection.proofs.check_window.Tie as tie
 
 returns : tie.Need-returns
 returns c = simp (lt-ltb _ _ (c .if1 .taken))
