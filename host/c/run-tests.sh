@@ -87,7 +87,7 @@ compile library "-O2 -g" tests/library.c
 compile library-sanitized "$sanitizers" tests/library.c
 "$out/library-sanitized"
 valgrind --quiet --error-exitcode=1 --leak-check=full --errors-for-leak-kinds=all "$out/library" 20000
-for test in tool_library tool_replies; do
+for test in tool_library tool_replies tool_changes; do
     compile_tool $test "-O2 -g" tests/$test.c
     "$out/$test"
     compile_tool $test-sanitized "$sanitizers" tests/$test.c
@@ -137,6 +137,8 @@ python3 "$here/tests/refusal_test.py" "$out"
 python3 "$here/tests/document_test.py" "$root/docs/DRIVER.md" "$root" "$out"
 compile_tool ask "-O2" example/ask.c
 compile_tool ask-sanitized "$sanitizers" example/ask.c
+compile_tool change "-O2" example/change.c
+compile_tool change-sanitized "$sanitizers" example/change.c
 parts="tool.c tool_bus.c tool_explain.c tool_frames.c tool_words.c"
 # shellcheck disable=SC2086
 compile_tool tool "-O2 -g" $parts

@@ -9,7 +9,7 @@ cd "$(dirname "$0")/../.."
 
 CARGO_TARGET_DIR="$PWD/target/host-rust"
 export CARGO_TARGET_DIR
-# Of 21 calls one is for the tool's half.
+# Of 700 calls one is for writes that add up, and of 21 others one is for the tool's half.
 calls=21000000
 
 for half in driver tool; do

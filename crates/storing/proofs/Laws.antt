@@ -68,7 +68,7 @@ bytes-within bytes memory index =
     })
     (λ _. same-within index (length bytes) memory)
 
-masked-length : (pairs : List Pair) (l : List ℕ) → length (masked pairs l) ≡ length l
+pub masked-length : (pairs : List Pair) (l : List ℕ) → length (masked pairs l) ≡ length l
 unfolding masked
 masked-length [] l = refl
 masked-length (p ∷ more) [] = refl

@@ -1,5 +1,8 @@
-// The edge of the tool's half to C: a command written for each request, the readers of what a board answers, and the frames of its replies joined.
+// The edge of the tool's half to C: a command written for each request, the readers of what a board answers, the frames of its replies joined, and
+// masks and data that are put together or made of two images.
 // Everything is lent: a slice is a pointer and then a length, an array of a fixed length is a pointer.
+use changes::ChangeFields;
+use combining::MaskedByte;
 use numbers::Acknowledged;
 use numbers::Composed;
 use numbers::RejectionFields;
@@ -20,11 +23,17 @@ ghost use Rattle.replies.specs.Finding.{findReply, Readings};
 ghost use Rattle.receipt.specs.Receipt.{receivedIn, rejectionIn};
 ghost use Rattle.numbers.specs.Numbers.{acknowledgedOf, rejectionOf, fieldsOf, ToldApart};
 ghost use Rattle.meeting.specs.Meeting.{HalvesMeet};
+ghost use Rattle.combining.specs.Combining.{zeroOutside, putTogether, pairIs};
+ghost use Rattle.effects.specs.AnyOrder.{WritesAddUp};
+ghost use Rattle.differences.specs.Differences.{nextChange};
+ghost use Rattle.differences.specs.Writes.{AllUpdates};
+ghost use Rattle.changes.specs.Changes.{Finds};
+ghost use Rattle.changes.specs.Numbers.{numbersOf, changeIs};
 ghost use Rattle.tool.specs.Composing.{Composes};
 ghost use Rattle.tool.specs.Joining.{joinedAs, joinedOf, outcomeIs};
 
 // The version of this edge, major in the upper 16 bits and minor in the lower: a header of the same major and of no greater minor fits.
-const VERSION: u32 = 0x00020000;
+const VERSION: u32 = 0x00020001;
 
 // What comes of joining a frame. The kinds: 0 the places are not sound, 1 ignored, 2 joined or swallowed, 3 refused with `code`, 4 a datagram that
 // is the frame's data, 5 a datagram that is the part of the pool from `start` up to `end`. A number that its kind does not name is 0.
@@ -38,7 +47,7 @@ pub struct JoinedFields {
 
 #[no_mangle]
 pub extern "C" fn bujorelm_tool_version() -> u32
-    ensures { λ r. ⌜ r ≡ 0x00020000 ⌝ }
+    ensures { λ r. ⌜ r ≡ 0x00020001 ⌝ }
 {
     VERSION
 }
@@ -194,4 +203,29 @@ pub extern "C" fn bujorelm_join(
     ensures numbers { λ r. ⌜ r ≡ joinedOf (outcomeIs r) ⌝ }
 {
     of_outcome(joining::join(pool, places, alias, 0, header, payload))
+}
+
+// Two pairs of a mask and a data byte put together, the later winning bit by bit. What a board does with a list of writes is what one such pair for
+// each byte of its memory does, and those of two lists are put together so.
+#[no_mangle]
+pub extern "C" fn bujorelm_put_together(earlier: MaskedByte, later: MaskedByte) -> MaskedByte
+    ensures together { λ r. ⌜ pairIs r ≡ putTogether (zeroOutside (pairIs earlier)) (zeroOutside (pairIs later)) ⌝ }
+    ensures adds_up { λ _. ⌜ WritesAddUp ⌝ }
+{
+    combining::put_together(earlier, later)
+}
+
+// The next masked write, at or after an index, out of those that take an old image of memory to a new one.
+#[no_mangle]
+pub extern "C" fn bujorelm_next_change(
+    old: &[u8],
+    new: &[u8],
+    from: usize,
+    pairs: &mut [u8],
+) -> ChangeFields
+    ensures finds { λ r. ⌜ Finds (nextChange (now (old .entry)) (now (new .entry)) from (length (now (pairs .entry)))) (changeIs r) (now (pairs .entry)) (now (pairs .exit)) ⌝ }
+    ensures numbers { λ r. ⌜ r ≡ numbersOf (changeIs r) ⌝ }
+    ensures updates { λ _. ⌜ AllUpdates ⌝ }
+{
+    changes::numbers_of(changes::next_change(old, new, from, pairs))
 }

@@ -9,8 +9,10 @@
  * - The functions bujorelm_read_* read what a board answers, and give every field or W3. What may be missing says whether it is there: no text
  *   and an empty text are told apart, and so are no lowest space and space 0, no lowest address and address 0.
  * - bujorelm_join joins the frames of a reply datagram.
+ * - bujorelm_next_change finds the masked writes that take an old image of memory to a new one and touch no bit that is the same in both, so that
+ *   two tools may set single bits of one byte. bujorelm_put_together makes one mask and data byte of two.
  *
- * "C-12" and "C-15" below are the change requests of these names in document 02.
+ * "C-12", "C-15" and "C-16" below are the change requests of these names in document 02.
  */
 #ifndef BUJORELM_TOOL_H
 #define BUJORELM_TOOL_H
@@ -22,10 +24,13 @@ extern "C" {
 #endif
 
 /* The version of this header, in the form of BUJORELM_VERSION. bujorelm_tool_version_fits compares it with the archive's. */
-#define BUJORELM_TOOL_VERSION 0x00020000u
+#define BUJORELM_TOOL_VERSION 0x00020001u
 
 /* The fewest bytes that the buffer for a command must have. */
 #define BUJORELM_COMMAND_MIN 72u
+
+/* The fewest bytes that the buffer for the pairs of a change must have: those of 32 pairs, the most of a masked write. */
+#define BUJORELM_PAIRS_MIN 64u
 
 /* The most bytes of a Received OK and of a Rejected, behind the aliases. */
 #define BUJORELM_RECEIVED_OK_MAX 1u
@@ -33,13 +38,14 @@ extern "C" {
 
 /* ---- Numbers ---- */
 
-/* The refusals of C-12. */
+/* The refusals of C-12, and those of bujorelm_next_change, which has the same numbers for the same kinds of mistake. */
 enum bujorelm_refusal {
     BUJORELM_REFUSAL_NONE = 0,
     /* Of the writer: a count that is not 1 to 64, a write of no bytes or of more than 64, a masked write of no pair or of more than 32, an odd
-       number of bytes for pairs, an ID that has not six bytes. */
+       number of bytes for pairs, an ID that has not six bytes. Of bujorelm_next_change: two images of different length. */
     BUJORELM_REFUSAL_W1 = 1,
-    /* Of the writer, tested behind W1: a buffer of fewer than 72 bytes, whichever command it is for. */
+    /* Of the writer, tested behind W1: a buffer of fewer than 72 bytes, whichever command it is for. Of bujorelm_next_change, tested behind W1
+       too: one of fewer than 64 bytes, whether or not there is a change. */
     BUJORELM_REFUSAL_W2 = 2,
     /* Of the readers: a Received OK of more than 1 byte, a Rejected of more than 66, or a datagram in no form of a reply. */
     BUJORELM_REFUSAL_W3 = 3
@@ -166,6 +172,21 @@ struct bujorelm_joined {
     size_t end;
 };
 
+/* A mask and a data byte: bits whose mask bit is 1 are taken from the data, and the others stay as they are. Data outside the mask play no part. */
+struct bujorelm_pair {
+    uint8_t mask;
+    uint8_t data;
+};
+
+/* The next masked write: W1, W2, or none; whether there is one; and if so, the index of its first byte in the images and the number of its pairs,
+   1 to 32. */
+struct bujorelm_change {
+    enum bujorelm_refusal refusal;
+    bool given;
+    size_t start;
+    size_t count;
+};
+
 /* ---- The layout, held to the library's ---- */
 
 #if defined(__cplusplus) && __cplusplus >= 201103L
@@ -226,6 +247,16 @@ BUJORELM_AT(joined, kind, 0);
 BUJORELM_AT(joined, code, 4);
 BUJORELM_AT(joined, start, 8);
 BUJORELM_AT(joined, end, 16);
+
+BUJORELM_SIZE(pair, 2);
+BUJORELM_AT(pair, mask, 0);
+BUJORELM_AT(pair, data, 1);
+
+BUJORELM_SIZE(change, 24);
+BUJORELM_AT(change, refusal, 0);
+BUJORELM_AT(change, given, 4);
+BUJORELM_AT(change, start, 8);
+BUJORELM_AT(change, count, 16);
 
 #undef BUJORELM_SIZE
 #undef BUJORELM_AT
@@ -304,6 +335,38 @@ struct bujorelm_reply bujorelm_read_reply(const uint8_t *datagram, size_t datagr
  */
 struct bujorelm_joined bujorelm_join(uint16_t alias, uint8_t *pool, struct bujorelm_reception *reception, uint32_t header,
                                      const uint8_t *payload, size_t payload_len);
+
+/*
+ * Changing bits and leaving all others alone (C-16).
+ *
+ * Whatever writes and masked writes a board accepts, they do to its memory what one mask and one data byte for each byte do, later writes winning
+ * bit by bit. Two that touch no common bit may come in either order, whichever tool sends which: memory is the same, and so is the answer to each.
+ * A plain write touches all eight bits of each of its bytes; a masked write those that its masks have at 1.
+ */
+
+/* One mask and data byte that do to every byte what `earlier` and then `later` do: what either touches is touched, and of a bit that both touch
+   the later is seen. The data of the result are zero outside its mask. Nothing is lent. */
+struct bujorelm_pair bujorelm_put_together(struct bujorelm_pair earlier, struct bujorelm_pair later);
+
+/*
+ * The next masked write out of those that take an old image of memory to a new one, at or after an index.
+ *
+ * before, after  lent, of the same length, and not written to: what the board's bytes are, and what they are to be
+ * from           the index at which to look on: 0 for the first, and then `start` + `count` of the change before
+ * pairs          lent, at least 64 bytes, and need not be cleared
+ *
+ * Comes back: W1 or W2, or whether there is a change. It starts at the first byte at or after `from` that differs and ends with the last that
+ * differs among the 32 bytes from there; its pairs are in front of `pairs`, 2 * `count` bytes, as bujorelm_compose_masked_write takes them. Each mask
+ * has just the bits that differ. Where no byte differs at or after `from`, also where that is behind the images, none is `given`.
+ *
+ * It is for bits that stand for something each by itself, as lamps do. A number that another tool may set at the same time is written whole: of two
+ * tools that each touch only the bits in which it changes, a number may come that neither has sent.
+ *
+ * All of them one after the other make the old image the new one, and fewer masked writes do not. What never happens: a bit is touched that is the
+ * same in both images; a byte of `pairs` is written behind the pairs, or where there is no change.
+ */
+struct bujorelm_change bujorelm_next_change(const uint8_t *before, size_t before_len, const uint8_t *after, size_t after_len, size_t from,
+                                            uint8_t *pairs, size_t pairs_len);
 
 /* ---- Functions of this header ---- */
 

@@ -21,12 +21,25 @@ static size_t untouched;
 /* What getting onto the painted stack takes by itself. */
 static size_t base;
 
-/* Runs on the painted stack, and looks at it before the way back, which takes some of it too. */
+/* Whether eight bytes of the stack are as they were painted. */
+static inline bool is_painted(size_t from)
+{
+    uint64_t eight;
+
+    memcpy(&eight, stack + from, sizeof eight);
+    return eight == UINT64_C(0x0101010101010101) * pattern;
+}
+
+/* Runs on the painted stack, and looks at it before the way back, which takes some of it too. Most of it is untouched, and looking at that takes most
+   of the test's time: so it is done by eight bytes at once. */
 static void run_operation(void)
 {
     size_t n = 0;
 
     operation();
+    while (n < sizeof stack && is_painted(n)) {
+        n += 8;
+    }
     while (n < sizeof stack && stack[n] == pattern) {
         n++;
     }

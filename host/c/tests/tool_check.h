@@ -1,9 +1,22 @@
-/* What the two tests of the tool's half share: replies read between pages that cannot be touched, and compared field by field. */
+/* What the tests of the tool's half share: bytes that must stay as they are, and replies read between pages that cannot be touched, and compared
+   field by field. */
 #ifndef BUJORELM_TOOL_CHECK_H
 #define BUJORELM_TOOL_CHECK_H
 
 #include "bujorelm_tool.h"
 #include "check.h"
+
+#define UNTOUCHED 0xC7
+
+static inline bool is_untouched(const uint8_t *bytes, size_t from, size_t end)
+{
+    for (size_t i = from; i < end; i++) {
+        if (bytes[i] != UNTOUCHED) {
+            return false;
+        }
+    }
+    return true;
+}
 
 static const struct bujorelm_bytes none = {.given = false, .start = 0, .len = 0};
 

@@ -4,6 +4,24 @@
 #include <cstdio>
 #include <cstring>
 
+// One change of two bytes that differ, and two pairs put together.
+static bool changes_bits()
+{
+    static const uint8_t before[] = {0x00, 0x00, 0xFF};
+    static const uint8_t after[] = {0x00, 0x01, 0x7F};
+    static const uint8_t wanted[] = {0x01, 0x01, 0x80, 0x00};
+    const bujorelm_pair earlier = {0x0F, 0x05};
+    const bujorelm_pair later = {0xF1, 0xA0};
+    const bujorelm_pair one = bujorelm_put_together(earlier, later);
+    uint8_t pairs[BUJORELM_PAIRS_MIN];
+    const bujorelm_change change = bujorelm_next_change(before, sizeof before, after, sizeof after, 0, pairs, sizeof pairs);
+
+    return one.mask == 0xFF && one.data == 0xA4 && change.refusal == BUJORELM_REFUSAL_NONE && change.given && change.start == 1 &&
+           change.count == 2 && std::memcmp(pairs, wanted, sizeof wanted) == 0 &&
+           !bujorelm_next_change(before, sizeof before, after, sizeof after, 3, pairs, sizeof pairs).given &&
+           bujorelm_next_change(before, 2, after, 3, 0, pairs, sizeof pairs).refusal == BUJORELM_REFUSAL_W1;
+}
+
 int main()
 {
     static const uint8_t options[] = {0x20, 0x82, 0xE0, 0x00, 0xF2, 0xFF, 0x10, 'A', 0};
@@ -33,6 +51,10 @@ int main()
     if (joined.kind != BUJORELM_JOINED_IN_POOL || joined.end - joined.start != sizeof options ||
         std::memcmp(pool + joined.start, options, sizeof options) != 0) {
         std::puts("tool_header: the library does not join in C++");
+        return 1;
+    }
+    if (!changes_bits()) {
+        std::puts("tool_header: the library does not change bits in C++");
         return 1;
     }
     std::puts("tool_header: works in C++");

@@ -1,7 +1,7 @@
 /*
  * Tests of the tool's half through its C interface: every bound of the writer and the order of its refusals, the bytes of each command, Received
  * OK and Rejected, what the board makes of the commands and what the readers make of its answers, the joining of frames, and pseudo-random calls.
- * The forms of a reply, one by one, are in tests/tool_replies.c.
+ * The forms of a reply, one by one, are in tests/tool_replies.c, and what changes single bits is in tests/tool_changes.c.
  *
  * Usage: tool_library [how many pseudo-random calls of each sort]
  */
@@ -10,19 +10,8 @@
 #include "demonstration.h"
 #include "tool_check.h"
 
-#define UNTOUCHED 0xC7
 #define BOARD 0x22Bu
 #define TOOL 0x456u
-
-static bool is_untouched(const uint8_t *bytes, size_t from, size_t end)
-{
-    for (size_t i = from; i < end; i++) {
-        if (bytes[i] != UNTOUCHED) {
-            return false;
-        }
-    }
-    return true;
-}
 
 /* ---- Requests ---- */
 
@@ -720,8 +709,8 @@ static void random_joins(unsigned long count)
 
 static void test_version(void)
 {
-    CHECK(bujorelm_tool_version() == 0x00020000 && BUJORELM_TOOL_VERSION == 0x00020000 && bujorelm_tool_version_fits());
-    CHECK(BUJORELM_COMMAND_MIN == 72 && BUJORELM_RECEIVED_OK_MAX == 1 && BUJORELM_REJECTED_MAX == 66);
+    CHECK(bujorelm_tool_version() == 0x00020001 && BUJORELM_TOOL_VERSION == 0x00020001 && bujorelm_tool_version_fits());
+    CHECK(BUJORELM_COMMAND_MIN == 72 && BUJORELM_PAIRS_MIN == 64 && BUJORELM_RECEIVED_OK_MAX == 1 && BUJORELM_REJECTED_MAX == 66);
 }
 
 int main(int argc, char **argv)

@@ -15,6 +15,7 @@
 #define BOUND 1024u
 
 struct tool_subject subject;
+struct tool_images images;
 
 static const struct {
     const char *name;
@@ -31,6 +32,8 @@ static const struct {
     {"bujorelm_read_rejected", call_read_rejected},
     {"bujorelm_read_reply", call_read_reply},
     {"bujorelm_join", call_join},
+    {"bujorelm_put_together", call_put_together},
+    {"bujorelm_next_change", call_next_change},
     {"bujorelm_tool_version", call_tool_version},
 };
 
@@ -60,6 +63,22 @@ static void make_subject(size_t len)
     random_bytes(subject.frame.bytes, sizeof subject.frame.bytes);
 }
 
+/* The images of a change begin as the same bytes. Each turn one more run of bytes differs, of a length that takes one masked write or two; one
+   looks from anywhere on, also behind the end, and now and then the call is refused. */
+static void make_images(void)
+{
+    const size_t start = random_below(sizeof images.after);
+    const size_t run = 1 + random_below(40);
+
+    for (size_t i = start; i < start + run && i < sizeof images.after; i++) {
+        images.after[i] = (uint8_t)random_number();
+    }
+    random_bytes((uint8_t *)subject.pairs, sizeof subject.pairs);
+    subject.from = random_below(4) == 0 ? 0 : random_below(sizeof images.after + 100);
+    subject.image_len = sizeof images.after - (random_below(8) == 0 ? 1 : 0);
+    subject.room_len = random_below(8) == 0 ? 63 : sizeof subject.room;
+}
+
 static void measure_all(void)
 {
     static struct tool_subject before;
@@ -78,6 +97,7 @@ int main(int argc, char **argv)
     start_painting();
     for (size_t turn = 0; turn < 30 * (sizeof subject.bytes + 1); turn++) {
         make_subject(turn % (sizeof subject.bytes + 1));
+        make_images();
         measure_all();
     }
     for (size_t i = 0; i < CALLS; i++) {

@@ -21,9 +21,23 @@ struct tool_subject {
     struct bujorelm_rejection rejection;
     struct bujorelm_reply reply;
     struct bujorelm_joined joined;
+    struct bujorelm_pair pairs[2];
+    struct bujorelm_pair pair;
+    size_t from;
+    size_t image_len;
+    uint8_t room[BUJORELM_PAIRS_MIN];
+    size_t room_len;
+    struct bujorelm_change change;
+};
+
+/* The images of a change, which a call only reads: they are not in the subject, which is put back before each call. */
+struct tool_images {
+    uint8_t before[BUJORELM_STORE_MAX];
+    uint8_t after[BUJORELM_STORE_MAX];
 };
 
 extern struct tool_subject subject;
+extern struct tool_images images;
 
 void call_compose_read(void);
 void call_compose_write(void);
@@ -36,6 +50,8 @@ void call_read_received_ok(void);
 void call_read_rejected(void);
 void call_read_reply(void);
 void call_join(void);
+void call_put_together(void);
+void call_next_change(void);
 void call_tool_version(void);
 
 #endif

@@ -58,6 +58,17 @@ void call_join(void)
     subject.joined = bujorelm_join(0x456, subject.pool, &subject.reception, subject.frame.header, subject.frame.bytes, subject.frame.len);
 }
 
+void call_put_together(void)
+{
+    subject.pair = bujorelm_put_together(subject.pairs[0], subject.pairs[1]);
+}
+
+void call_next_change(void)
+{
+    subject.change = bujorelm_next_change(images.before, sizeof images.before, images.after, subject.image_len, subject.from, subject.room,
+                                          subject.room_len);
+}
+
 void call_tool_version(void)
 {
     subject.version = bujorelm_tool_version();

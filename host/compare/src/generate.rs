@@ -112,7 +112,7 @@ fn any_address(random: &mut Random) -> u32 {
     }
 }
 
-fn any_alias(random: &mut Random) -> u16 {
+pub(crate) fn any_alias(random: &mut Random) -> u16 {
     if random.once_in(2) {
         random.pick(&[1, 2, 0x22B, 0x7FF, 0x800, 0xFFE, 0xFFF])
     } else {
@@ -171,18 +171,13 @@ fn excess(random: &mut Random) -> usize {
 }
 
 /// A good space behind these; at least one of the two stores has a byte.
-fn good_space(
+pub(crate) fn good_space(
     random: &mut Random,
     earlier: &[Space],
     flash_len: usize,
     memory_len: usize,
 ) -> Space {
-    let number = loop {
-        let number = any_number(random);
-        if earlier.iter().all(|space| space.number != number) {
-            break number;
-        }
-    };
+    let number = free_number(random, earlier);
     let in_flash = memory_len == 0 || (flash_len != 0 && random.once_in(4));
     let store = if in_flash { flash_len } else { memory_len };
     let size = match random.below(6) {
@@ -195,13 +190,7 @@ fn good_space(
         1 => store - size,
         _ => random.between(0, store - size),
     };
-    let highest_start = u32::MAX - (size as u32 - 1);
-    let lowest = match random.below(6) {
-        0..=2 => 0,
-        3 => highest_start,
-        4 => highest_start.min(random.pick(&[1, 0x100, 0xFFFF, 0x7FFF_FFF0, 0x8000_0000])),
-        _ => highest_start.min(random.word()),
-    };
+    let lowest = any_lowest(random, size);
     Space {
         number,
         lowest,
@@ -209,6 +198,27 @@ fn good_space(
         read_only: in_flash || number == 0xFF || random.once_in(4),
         in_flash,
         offset: offset as u32,
+    }
+}
+
+/// A number that none of these spaces has.
+pub(crate) fn free_number(random: &mut Random, earlier: &[Space]) -> u8 {
+    loop {
+        let number = any_number(random);
+        if earlier.iter().all(|space| space.number != number) {
+            return number;
+        }
+    }
+}
+
+/// A lowest address for a space of so many bytes, 1 at least.
+pub(crate) fn any_lowest(random: &mut Random, size: usize) -> u32 {
+    let highest_start = u32::MAX - (size as u32 - 1);
+    match random.below(6) {
+        0..=2 => 0,
+        3 => highest_start,
+        4 => highest_start.min(random.pick(&[1, 0x100, 0xFFFF, 0x7FFF_FFF0, 0x8000_0000])),
+        _ => highest_start.min(random.word()),
     }
 }
 

@@ -21,3 +21,4 @@ pub mod tally;
 pub mod times;
 pub mod tool;
 pub mod world;
+pub mod writes;

@@ -4,7 +4,7 @@
 mod swallowing;
 
 use crate::ages;
-use crate::ffi::tool::{Acknowledged, Composed, Joined, Rejection, Reply};
+use crate::ffi::tool::{Acknowledged, Change, Composed, Joined, Pair, Rejection, Reply};
 use crate::ffi::{Numbers, Places, Pool, PLACES, PLACE_BYTES, PLACE_SIZE};
 use crate::generate::{Board, Incoming};
 use crate::guarded::Guarded;
@@ -341,6 +341,10 @@ impl<H: Handler> Handler for WithTool<'_, H> {
     fn handle_tick(&self, places: &mut Places, tick: u16) -> Numbers {
         self.0.handle_tick(places, tick)
     }
+
+    fn handle_datagram(&self, board: &Board, lent: &mut Lent, datagram: &[u8]) -> Numbers {
+        self.0.handle_datagram(board, lent, datagram)
+    }
 }
 
 impl<H: Handler> Archive for WithTool<'_, H> {
@@ -370,10 +374,18 @@ impl<H: Handler> Archive for WithTool<'_, H> {
     ) -> Joined {
         Library.join(alias, pool, places, header, payload)
     }
+
+    fn put_together(&self, earlier: Pair, later: Pair) -> Pair {
+        Library.put_together(earlier, later)
+    }
+
+    fn next_change(&self, before: &[u8], after: &[u8], from: usize, pairs: &mut Guarded) -> Change {
+        Library.next_change(before, after, from, pairs)
+    }
 }
 
 /// The worlds that are gone through until a difference is found, at most.
-const WORLDS: u64 = 200;
+const WORLDS: u64 = 1_000;
 
 /// The report on a difference, if it is found in so many worlds.
 fn found(planted: &impl Handler, worlds: u64) -> Option<String> {

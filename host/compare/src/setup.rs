@@ -17,9 +17,9 @@ use crate::tally::{By, Case, Tally};
 use crate::times::{any_due, count_old, is_due, Call, Clock, Pasts};
 use model::{Reception, Unfinished, MOST_SENT};
 
-/// The functions of the board's half that bring a tick; the library's, where nothing else is said.
-/// The comparison is made with any that are handed in, so that it can be shown to find a difference
-/// that was planted.
+/// The functions of the board's half that handle something; the library's, where nothing else is
+/// said. The comparison is made with any that are handed in, so that it can be shown to find a
+/// difference that was planted.
 pub trait Handler {
     /// Handles a frame that comes at this tick, for this board.
     fn handle_frame(
@@ -36,18 +36,23 @@ pub trait Handler {
     fn handle_tick(&self, places: &mut Places, tick: u16) -> ffi::Numbers {
         ffi::handle_tick(places, tick)
     }
+
+    /// Handles a datagram that is handed over whole, for this board.
+    fn handle_datagram(&self, board: &Board, lent: &mut Lent, datagram: &[u8]) -> ffi::Numbers {
+        lent.datagram(board, datagram)
+    }
 }
 
 /// What the library is lent.
 #[derive(Clone, Debug)]
 pub struct Lent {
-    table: Guarded,
-    flash: Guarded,
-    memory: Guarded,
-    lock: Guarded,
+    pub(crate) table: Guarded,
+    pub(crate) flash: Guarded,
+    pub(crate) memory: Guarded,
+    pub(crate) lock: Guarded,
     pub(crate) places: Guarded,
     pub(crate) pool: Guarded,
-    reply: Guarded,
+    pub(crate) reply: Guarded,
     frames: Guarded,
 }
 
@@ -72,6 +77,22 @@ struct Before {
 }
 
 impl Lent {
+    /// What a board with this flash is lent for whole datagrams alone; memory, lock and reply
+    /// buffer are still to be set.
+    pub(crate) fn for_datagrams(board: &Board, flash: &[u8]) -> Self {
+        let [memory, lock, places, pool, reply, frames] = [(); 6].map(|()| Guarded::new(&[]));
+        Self {
+            table: Guarded::new(board.table()),
+            flash: Guarded::new(flash),
+            memory,
+            lock,
+            places,
+            pool,
+            reply,
+            frames,
+        }
+    }
+
     /// Makes the call for a frame.
     fn frame(&mut self, board: &Board, tick: u16, frame: &Incoming) -> ffi::Numbers {
         ffi::handle_frame(
@@ -106,7 +127,7 @@ impl Lent {
     }
 
     /// Whether all guards are as they were.
-    fn is_intact(&self) -> bool {
+    pub(crate) fn is_intact(&self) -> bool {
         let lent = [
             &self.table,
             &self.flash,
@@ -490,12 +511,13 @@ impl Setup {
     /// Makes the call for a whole datagram to both, and gives the answer that both agree on.
     pub fn datagram(
         &mut self,
+        handler: &impl Handler,
         datagram: &[u8],
         reply: &[u8],
         tally: &mut Tally,
     ) -> Result<Answer, String> {
         self.begin(reply);
-        let numbers = self.library.datagram(&self.board, datagram);
+        let numbers = handler.handle_datagram(&self.board, &mut self.library, datagram);
         let answer = Answer::from(numbers);
         let done = Done {
             by: By::Whole,

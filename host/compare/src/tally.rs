@@ -7,6 +7,7 @@ use crate::ffi::MOST_SPACES;
 use crate::generate::COMMANDS;
 use crate::layout::TableKind;
 use crate::tool::cases::ToolTally;
+use crate::writes::cases::WriteTally;
 
 /// Makes an enum of cases, with their names and with the calls that reach them.
 macro_rules! cases {
@@ -453,6 +454,8 @@ pub struct Tally {
     /// Of the refused spaces, by their position.
     positions: [[u64; MOST_SPACES]; 2],
     commands: [[u64; 256]; 2],
+    /// Of writes that add up.
+    pub writes: WriteTally,
     /// Of the tool's half.
     pub tool: ToolTally,
 }
@@ -464,6 +467,7 @@ impl Default for Tally {
             limits: [[0; SETS]; 2],
             positions: [[0; MOST_SPACES]; 2],
             commands: [[0; 256]; 2],
+            writes: WriteTally::default(),
             tool: ToolTally::default(),
         }
     }
@@ -668,6 +672,7 @@ impl Tally {
             let name = format!("command 0x{command:02X}, received OK");
             all &= print_row(&name, counts, Reach::Both);
         }
+        all &= self.writes.print();
         all &= self.tool.print();
         all
     }

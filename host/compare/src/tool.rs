@@ -2,6 +2,7 @@
 //! to it and to the model and compared.
 
 pub mod cases;
+pub mod change;
 pub mod compose;
 pub mod expected;
 pub mod join;
@@ -13,7 +14,9 @@ pub mod replies;
 pub mod request;
 pub mod said;
 
-use crate::ffi::tool::{self as edge, Acknowledged, Composed, Joined, Rejection, Reply};
+use crate::ffi::tool::{
+    self as edge, Acknowledged, Change, Composed, Joined, Pair, Rejection, Reply,
+};
 use crate::ffi::{Places, Pool};
 use crate::guarded::Guarded;
 use crate::random::Random;
@@ -22,9 +25,12 @@ use crate::tally::Tally;
 use join::Listener;
 use request::Request;
 
-/// The functions of the tool's half, beside those of the board's that bring a tick. The comparison
-/// is made with any that are handed in, so that it can be shown to find a difference that was
-/// planted.
+/// How many calls for changes there are for one hundred of the others.
+const CHANGES: usize = 10;
+
+/// The functions of the tool's half, beside those of the board's that handle something. The
+/// comparison is made with any that are handed in, so that it can be shown to find a difference that
+/// was planted.
 pub trait Archive: Handler {
     /// Writes the command for a request into a buffer.
     fn compose(&self, request: &Request, buffer: &mut Guarded) -> Composed;
@@ -43,6 +49,11 @@ pub trait Archive: Handler {
         header: u32,
         payload: &[u8],
     ) -> Joined;
+    /// Puts two pairs of mask and data together.
+    fn put_together(&self, earlier: Pair, later: Pair) -> Pair;
+    /// Finds the next change between two images at or after an index, and writes its pairs into a
+    /// buffer.
+    fn next_change(&self, before: &[u8], after: &[u8], from: usize, pairs: &mut Guarded) -> Change;
 }
 
 /// The library.
@@ -99,6 +110,14 @@ impl Archive for Library {
     ) -> Joined {
         edge::join(alias, pool, places, header, payload)
     }
+
+    fn put_together(&self, earlier: Pair, later: Pair) -> Pair {
+        edge::put_together(earlier, later)
+    }
+
+    fn next_change(&self, before: &[u8], after: &[u8], from: usize, pairs: &mut Guarded) -> Change {
+        edge::next_change(before, after, from, pairs.bytes_mut())
+    }
 }
 
 /// Makes one call, or some that belong together, to both sides: on this board, and for the tool that
@@ -110,7 +129,8 @@ pub fn call(
     random: &mut Random,
     tally: &mut Tally,
 ) -> Result<(), String> {
-    match random.below(100) {
+    match random.below(100 + CHANGES) {
+        100.. => change::call(archive, random, tally),
         0..=27 => compose::call(archive, random, &mut tally.tool),
         28..=62 => read::reply_call(archive, random, &mut tally.tool),
         63..=69 => read::received_ok_call(archive, random, &mut tally.tool),
@@ -123,7 +143,7 @@ pub fn call(
 
 /// Hexadecimal digits as bytes.
 #[cfg(test)]
-fn bytes(digits: &str) -> Vec<u8> {
+pub(crate) fn bytes(digits: &str) -> Vec<u8> {
     (0..digits.len())
         .step_by(2)
         .map(|at| u8::from_str_radix(&digits[at..at + 2], 16).expect("a pair of digits"))

@@ -13,9 +13,12 @@ use crate::tally::Tally;
 use crate::times::{start, Clock, GREATEST_AGE, MOST_TICKS, ROUND};
 use crate::tool::join::Listener;
 use crate::tool::{self, Archive};
+use crate::writes;
 
 /// How many calls for the tool's half there are for one hundred of the others.
 const TOOL_CALLS: usize = 5;
+/// One call in so many is for writes that add up.
+const WRITES: usize = 700;
 
 /// A board and its tools.
 pub struct World {
@@ -60,6 +63,10 @@ impl World {
         tally: &mut Tally,
     ) -> Result<(), String> {
         self.calls_left -= 1;
+        // One of these takes as long as some twenty-five of the others.
+        if random.once_in(WRITES) {
+            return writes::call(archive, random, tally);
+        }
         match random.below(100 + TOOL_CALLS) {
             100.. => tool::call(archive, &mut self.setup, &mut self.listener, random, tally),
             // One of these takes as long as some eighty of the others.
@@ -73,7 +80,7 @@ impl World {
             53..=76 => {
                 let datagram = datagram(random, self.setup.board());
                 self.setup
-                    .datagram(&datagram, &buffer(random, false), tally)
+                    .datagram(archive, &datagram, &buffer(random, false), tally)
                     .map(|_| ())
             }
             77..=84 => self.spoilt_call(archive, random, tally),
@@ -143,7 +150,7 @@ impl World {
         }
         if random.once_in(3) {
             let datagram = datagram(random, self.setup.board());
-            setup.datagram(&datagram, &reply, tally)?;
+            setup.datagram(archive, &datagram, &reply, tally)?;
         } else {
             setup.frame(archive, &frame, &reply, &room, tally)?;
         }

@@ -1,8 +1,9 @@
-//! Holds what document 01 and change request C-12 say of the tool's half, asked of the library
-//! through its C edge: commands, the replies of the demonstration board, and what is refused.
+//! Holds what document 01 and change requests C-12 and C-16 say of the tool's half, asked of the
+//! library through its C edge: commands, the replies of the demonstration board, changes, and what
+//! is refused.
 
 use compare::demonstration::{Demonstration, ALIAS};
-use compare::ffi::tool::{self, Bytes, Composed, Reply};
+use compare::ffi::tool::{self, Bytes, Change, Composed, Pair, Reply};
 use compare::ffi::{self, Flag, SENT_SIZE};
 use compare::layout::frame_in;
 use compare::tool::said::NOTHING;
@@ -279,6 +280,110 @@ fn a_reply_that_is_broken() {
     assert_eq!(joined(first, &[0x20]), (2, 0, vec![], 0));
     assert_eq!(joined(single, &[0x20]), refused);
     assert_eq!(joined(single, &[0x20]), (4, 0, vec![], 0));
+}
+
+#[test]
+fn two_pairs_in_one() {
+    let together = |earlier: [u8; 2], later: [u8; 2]| {
+        let [earlier, later] = [earlier, later].map(|[mask, data]| Pair { mask, data });
+        let Pair { mask, data } = tool::put_together(earlier, later);
+        [mask, data]
+    };
+    assert_eq!(together([0x01, 0x01], [0x80, 0x80]), [0x81, 0x81]);
+    // Of a bit that both touch the later is seen, be it 0 or 1.
+    assert_eq!(together([0x0F, 0x0F], [0x03, 0x00]), [0x0F, 0x0C]);
+    assert_eq!(together([0x0F, 0x00], [0x03, 0x03]), [0x0F, 0x03]);
+    // Data outside a mask play no part.
+    assert_eq!(together([0x01, 0xFE], [0x02, 0xFD]), [0x03, 0x00]);
+    assert_eq!(together([0x00, 0xFF], [0x00, 0xFF]), [0x00, 0x00]);
+    assert_eq!(together([0xFF, 0x5A], [0x00, 0xFF]), [0xFF, 0x5A]);
+    assert_eq!(together([0x00, 0xFF], [0xFF, 0x5A]), [0xFF, 0x5A]);
+}
+
+/// The start and the pairs of the next change, with a buffer of so many bytes, or none, or the
+/// number of its refusal.
+fn changed(images: [&[u8]; 2], from: usize, size: usize) -> Result<Option<(usize, Vec<u8>)>, u32> {
+    let mut pairs = vec![FILL; size];
+    let Change {
+        refusal,
+        given,
+        start,
+        count,
+    } = tool::next_change(images[0], images[1], from, &mut pairs);
+    assert!(pairs[2 * count..].iter().all(|&byte| byte == FILL));
+    pairs.truncate(2 * count);
+    if given == YES {
+        assert!(refusal == 0 && count != 0);
+        return Ok(Some((start, pairs)));
+    }
+    assert_eq!((given, start, count), (NO, 0, 0));
+    if refusal == 0 {
+        Ok(None)
+    } else {
+        Err(refusal)
+    }
+}
+
+#[test]
+fn the_next_change() {
+    let images = [
+        &[0x0F, 0x10, 0x20, 0xFF, 0x40][..],
+        &[0x0E, 0x10, 0x31, 0x00, 0x40],
+    ];
+    let change = |from, size| changed(images, from, size);
+    assert_eq!(change(0, 64), Ok(Some((0, bytes("010000001111FF00")))));
+    assert_eq!(change(1, 65), Ok(Some((2, bytes("1111FF00")))));
+    assert_eq!(change(2, 64), Ok(Some((2, bytes("1111FF00")))));
+    assert_eq!(change(3, 100), Ok(Some((3, bytes("FF00")))));
+    for from in [4, 5, 6, 256, 1 << 32, usize::MAX] {
+        assert_eq!(change(from, 64), Ok(None), "{from}");
+        assert_eq!(change(from, 63), Err(2), "{from}");
+        assert_eq!(change(from, 0), Err(2), "{from}");
+        let unequal = [images[0], &images[1][..4]];
+        assert_eq!(changed(unequal, from, 63), Err(1), "{from}");
+        assert_eq!(changed([&[], &[1]], from, 64), Err(1), "{from}");
+    }
+    assert_eq!(change(0, 63), Err(2));
+    assert_eq!(changed([&[], &[]], 0, 64), Ok(None));
+    assert_eq!(changed([&[7], &[7]], 0, 64), Ok(None));
+}
+
+#[test]
+fn the_reach_of_a_change() {
+    let old = [0; 66];
+    let change = |places: &[usize], from| {
+        let mut new = old;
+        places.iter().for_each(|&place| new[place] = 0x80);
+        let found = changed([&old, &new], from, 64).expect("it is not refused");
+        found.map(|(start, pairs)| (start, pairs.len() / 2))
+    };
+    assert_eq!(change(&[1, 32], 0), Some((1, 32)));
+    assert_eq!(change(&[1, 33], 0), Some((1, 1)));
+    assert_eq!(change(&[1, 32, 33], 0), Some((1, 32)));
+    assert_eq!(change(&[1, 32, 33], 33), Some((33, 1)));
+    assert_eq!(change(&[1, 5, 33], 2), Some((5, 29)));
+    assert_eq!(change(&[65], 0), Some((65, 1)));
+    assert_eq!(change(&[34, 65], 34), Some((34, 32)));
+    assert_eq!(change(&[34, 65], 35), Some((65, 1)));
+}
+
+#[test]
+fn a_lamp_of_each_of_two_tools() {
+    let mut board = Demonstration::new();
+    board.memory[32] = 0x0F;
+    // Both have read 0x0F. The one clears the lowest bit through 0xFE, the other sets the highest
+    // through 0x10.
+    for (space, address, new) in [(0xFE, 0x20, 0x0E), (0x10, 0x100, 0x8F)] {
+        let change = changed([&[0x0F], &[new]], 0, 64).expect("it is not refused");
+        let (start, pairs) = change.expect("a change");
+        let address = address + start as u32;
+        let command = written(72, |to| {
+            tool::compose_masked_write(space, address, &pairs, to)
+        });
+        let numbers = board.datagram(&command.expect("a command"));
+        assert_eq!((numbers.kind, numbers.changed_at), (5, 32));
+    }
+    assert_eq!(board.memory[32], 0x8E);
 }
 
 #[test]

@@ -90,29 +90,33 @@ pub(crate) fn handle(
     datagram: &[u8],
     reply: &mut [u8],
 ) -> Answer {
-    let answered = if datagram.is_empty() || datagram.len() > LONGEST_DATAGRAM {
-        Err(code::INVALID_ARGUMENT)
-    } else if datagram[0] != CONTENT_ID {
-        Err(code::UNKNOWN_DATAGRAM)
-    } else if let Some(&command) = datagram.get(1) {
-        match command {
-            0x00..=0x03 => write(description, memory, datagram, reply),
-            0x08..=0x0B => write_under_mask(description, memory, datagram, reply),
-            0x40..=0x43 => read(description, flash, memory, datagram, reply),
-            0x80 => options(description, datagram, reply),
-            0x84 => space_information(description, datagram, reply),
-            0x88 => lock_or_release(lock, datagram, reply),
-            0xA8 => update_complete(datagram),
-            _ => Err(code::UNKNOWN_COMMAND),
-        }
-    } else {
-        Err(code::INVALID_ARGUMENT)
-    };
+    let answered = command_of(datagram).and_then(|command| match command {
+        0x00..=0x03 => write(description, memory, datagram, reply),
+        0x08..=0x0B => write_under_mask(description, memory, datagram, reply),
+        0x40..=0x43 => read(description, flash, memory, datagram, reply),
+        0x80 => options(description, datagram, reply),
+        0x84 => space_information(description, datagram, reply),
+        0x88 => lock_or_release(lock, datagram, reply),
+        0xA8 => update_complete(datagram),
+        _ => Err(code::UNKNOWN_COMMAND),
+    });
     answered.unwrap_or_else(Answer::Rejected)
 }
 
+/// Byte 1 of a datagram of 2 to 72 bytes whose byte 0 is 0x20; of any other the code of its
+/// rejection. The command may still be unknown.
+pub(crate) fn command_of(datagram: &[u8]) -> Result<u8, u16> {
+    if datagram.is_empty() || datagram.len() > LONGEST_DATAGRAM {
+        Err(code::INVALID_ARGUMENT)
+    } else if datagram[0] != CONTENT_ID {
+        Err(code::UNKNOWN_DATAGRAM)
+    } else {
+        datagram.get(1).copied().ok_or(code::INVALID_ARGUMENT)
+    }
+}
+
 /// A read, write or masked write, seen in the datagram itself.
-struct Addressed<'d> {
+pub(crate) struct Addressed<'d> {
     /// The low two bits of the command.
     low_bits: u8,
     /// The space that the low bits, or byte 6, choose.
@@ -125,7 +129,8 @@ struct Addressed<'d> {
 }
 
 impl<'d> Addressed<'d> {
-    fn of(datagram: &'d [u8]) -> Result<Self, u16> {
+    /// Reads the address and the space of a datagram that has byte 1.
+    pub(crate) fn of(datagram: &'d [u8]) -> Result<Self, u16> {
         let low_bits = datagram[1] & 0x03;
         let after_echo = if low_bits == 0 { 7 } else { 6 };
         let (head, rest) = datagram
@@ -142,6 +147,25 @@ impl<'d> Addressed<'d> {
             echo: &head[2..],
             rest,
         })
+    }
+
+    /// The data of a write, 1 to 64 bytes.
+    pub(crate) fn data(&self) -> Result<&'d [u8], u16> {
+        let data = self.rest;
+        if !(1..=MOST_DATA).contains(&data.len()) {
+            return Err(code::INVALID_ARGUMENT);
+        }
+        Ok(data)
+    }
+
+    /// The masks and data of a masked write, 1 to 32 pairs.
+    pub(crate) fn pairs(&self) -> Result<&'d [u8], u16> {
+        let pairs = self.rest;
+        let odd_byte = pairs.chunks_exact(2).remainder();
+        if !(2..=MOST_DATA).contains(&pairs.len()) || !odd_byte.is_empty() {
+            return Err(code::INVALID_ARGUMENT);
+        }
+        Ok(pairs)
     }
 
     /// Writes the reply with this base command, to which the low bits are added, and this tail.
@@ -181,7 +205,7 @@ impl<'d> Addressed<'d> {
     }
 
     /// Where in memory the `count` bytes from the address are, all inside a writable space.
-    fn range_to_write(
+    pub(crate) fn range_to_write(
         &self,
         description: &Description,
         count: usize,
@@ -225,10 +249,7 @@ fn write(
     reply: &mut [u8],
 ) -> Result<Answer, u16> {
     let command = Addressed::of(datagram)?;
-    let data = command.rest;
-    if !(1..=MOST_DATA).contains(&data.len()) {
-        return Err(code::INVALID_ARGUMENT);
-    }
+    let data = command.data()?;
     Ok(match command.range_to_write(description, data.len()) {
         Ok(range) => {
             memory[range.clone()].copy_from_slice(data);
@@ -245,10 +266,7 @@ fn write_under_mask(
     reply: &mut [u8],
 ) -> Result<Answer, u16> {
     let command = Addressed::of(datagram)?;
-    let pairs = command.rest;
-    if !(2..=MOST_DATA).contains(&pairs.len()) || pairs.len() % 2 != 0 {
-        return Err(code::INVALID_ARGUMENT);
-    }
+    let pairs = command.pairs()?;
     Ok(match command.range_to_write(description, pairs.len() / 2) {
         Ok(range) => {
             let bytes = &mut memory[range.clone()];

@@ -1,6 +1,7 @@
 //! Holds the parts of the library: the board's side of the OpenLCB memory configuration protocol
 //! as document 01 fixes it, and the tool's half, the writer of commands and the readers of what
-//! comes back; with change requests C-11, C-12, C-14 and C-15 of document 02.
+//! comes back; what writes do to memory, and the changes from one image of memory to another; with
+//! change requests C-11, C-12, C-14, C-15 and C-16 of document 02.
 //!
 //! Document 01 decides; source documents 000 (Memory Configuration), 002 (Message Network) and
 //! 004 (Datagram Transport) stand behind it. Nothing here allocates while a frame is handled:
@@ -9,10 +10,13 @@
 #![forbid(unsafe_code)]
 #![warn(missing_docs)]
 
+mod bits;
+mod change;
 mod cutting;
 mod datagram;
 mod demonstration;
 mod description;
+mod effect;
 mod frame;
 mod gridconnect;
 mod house;
@@ -23,12 +27,15 @@ mod sending;
 mod splitting;
 mod tool;
 
+pub use bits::put_together;
+pub use change::{next_change, Change};
 pub use cutting::{cut, cut_into, Frames, MOST_FRAMES};
 pub use datagram::{code, handle_datagram, Answer, Lock, LONGEST_DATAGRAM};
 pub use demonstration::{demo_board, Board, DEMONSTRATION_DESCRIPTION};
 pub use description::{
     check_description, Description, Space, LARGEST_STORE, LAST_ALIAS, MOST_SPACES,
 };
+pub use effect::{is_accepted_write, Effect};
 pub use frame::{received_ok_frame, rejected_frame, transport_reply, Frame, FRAME_DATA};
 pub use gridconnect::{parse_line, print_line, LONGEST_LINE};
 pub use house::HouseNumber;

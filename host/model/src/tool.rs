@@ -12,14 +12,15 @@ const CONTENT_ID: u8 = 0x20;
 /// The most bytes that one command or reply carries: data, or masks and data in pairs.
 const MOST_DATA: usize = 64;
 
-/// Why the writer or a reader gives no result.
+/// Why the writer, a reader or the next change gives no result.
 ///
 /// Like the house numbers of the board these go back to the caller and are never sent.
 #[derive(Clone, Copy, Debug, PartialEq, Eq, PartialOrd, Ord, Hash)]
 pub enum ToolRefusal {
-    /// In writing: a count or a length that is out of range.
+    /// In writing: a count or a length that is out of range. In the next change: two images of
+    /// different length.
     W1,
-    /// In writing: a lent buffer under 72 bytes.
+    /// In writing: a lent buffer under 72 bytes. In the next change: one under 64.
     W2,
     /// In reading: bytes that have none of the forms.
     W3,

@@ -6,7 +6,7 @@
 use super::{Flag, Places, Pool};
 
 /// The version of the edge that this module is written for.
-pub const VERSION: u32 = 0x0002_0000;
+pub const VERSION: u32 = 0x0002_0001;
 
 /// What comes of writing a command.
 #[derive(Clone, Copy, Debug, PartialEq, Eq)]
@@ -125,6 +125,30 @@ pub struct Joined {
     pub end: usize,
 }
 
+/// A mask and a data byte.
+#[derive(Clone, Copy, Debug, PartialEq, Eq)]
+#[repr(C)]
+pub struct Pair {
+    /// The bits that are taken from the data.
+    pub mask: u8,
+    /// The data.
+    pub data: u8,
+}
+
+/// The next masked write from an old image to a new one.
+#[derive(Clone, Copy, Debug, PartialEq, Eq)]
+#[repr(C)]
+pub struct Change {
+    /// 1 for W1, 2 for W2, or 0.
+    pub refusal: u32,
+    /// Whether there is a change.
+    pub given: Flag,
+    /// The index of its first byte in the images.
+    pub start: usize,
+    /// How many pairs it has.
+    pub count: usize,
+}
+
 #[link(name = "tool", kind = "static")]
 extern "C" {
     fn bujorelm_tool_version() -> u32;
@@ -171,6 +195,16 @@ extern "C" {
         payload: *const u8,
         payload_len: usize,
     ) -> Joined;
+    fn bujorelm_put_together(earlier: Pair, later: Pair) -> Pair;
+    fn bujorelm_next_change(
+        before: *const u8,
+        before_len: usize,
+        after: *const u8,
+        after_len: usize,
+        from: usize,
+        pairs: *mut u8,
+        pairs_len: usize,
+    ) -> Change;
 }
 
 /// The version of the library's edge.
@@ -295,6 +329,32 @@ pub fn join(
     }
 }
 
+/// Puts two pairs together: the one pair that does what the earlier and then the later do.
+#[inline]
+#[must_use]
+pub fn put_together(earlier: Pair, later: Pair) -> Pair {
+    // SAFETY: nothing is lent.
+    unsafe { bujorelm_put_together(earlier, later) }
+}
+
+/// Finds the next masked write at or after an index that takes an old image to a new one.
+#[inline]
+pub fn next_change(before: &[u8], after: &[u8], from: usize, pairs: &mut [u8]) -> Change {
+    // SAFETY: each pointer comes with the length of its slice; the first two are only read, and
+    // the last is lent to nobody else.
+    unsafe {
+        bujorelm_next_change(
+            before.as_ptr(),
+            before.len(),
+            after.as_ptr(),
+            after.len(),
+            from,
+            pairs.as_mut_ptr(),
+            pairs.len(),
+        )
+    }
+}
+
 #[cfg(test)]
 mod tests {
     use super::*;
@@ -322,6 +382,14 @@ mod tests {
         assert_eq!(offset_of!(Joined, code), 4);
         assert_eq!(offset_of!(Joined, start), 8);
         assert_eq!(offset_of!(Joined, end), 16);
+        assert_eq!(size_of::<Pair>(), 2);
+        assert_eq!(offset_of!(Pair, mask), 0);
+        assert_eq!(offset_of!(Pair, data), 1);
+        assert_eq!(size_of::<Change>(), 24);
+        assert_eq!(offset_of!(Change, refusal), 0);
+        assert_eq!(offset_of!(Change, given), 4);
+        assert_eq!(offset_of!(Change, start), 8);
+        assert_eq!(offset_of!(Change, count), 16);
     }
 
     #[test]

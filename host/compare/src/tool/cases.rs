@@ -2,6 +2,7 @@
 //! those of the board's half have.
 
 use crate::tally::{cases, print_row, By, Reach};
+use crate::tool::change::cases::ChangeTally;
 use crate::tool::request::{Request, LONGEST_DATAGRAM};
 use crate::tool::said::{Part, Place, Said};
 use model::ToolRefusal;
@@ -294,6 +295,8 @@ pub struct ToolTally {
     texts: [[u64; 4]; 5],
     /// Of datagrams in the pool, by the place.
     places: [u64; 8],
+    /// Of changes.
+    pub changes: ChangeTally,
 }
 
 impl Default for ToolTally {
@@ -309,12 +312,13 @@ impl Default for ToolTally {
             forms: [[0; 4]; 4],
             texts: [[0; 4]; 5],
             places: [0; 8],
+            changes: ChangeTally::default(),
         }
     }
 }
 
 /// Counts a number among those that have to be reached, if it is one of them.
-fn count_among<T: PartialEq>(counts: &mut [u64], numbers: &[T], number: &T) {
+pub(crate) fn count_among<T: PartialEq>(counts: &mut [u64], numbers: &[T], number: &T) {
     for (count, _) in counts
         .iter_mut()
         .zip(numbers)
@@ -533,7 +537,7 @@ impl ToolTally {
             let counts = [0, 1].map(|by| self.cases[by][case as usize]);
             all &= print_row(name, counts, reach);
         }
-        all
+        all & self.changes.print()
     }
 }
 

@@ -44,7 +44,7 @@ pub fn whole(
 ) -> Result<(), String> {
     let datagram = datagram(random, setup.board());
     let Some(request) = Request::in_datagram(&datagram) else {
-        let answer = setup.datagram(&datagram, &buffer(random), tally)?;
+        let answer = setup.datagram(archive, &datagram, &buffer(random), tally)?;
         return hear_whole(archive, setup, answer, Due::Rejected, tally)
             .map_err(|what| report(&what, &datagram, None));
     };
@@ -58,7 +58,7 @@ pub fn whole(
 }
 
 /// The command for a request that is in range.
-fn command(
+pub fn command(
     archive: &impl Archive,
     request: &Request,
     random: &mut Random,
@@ -89,7 +89,7 @@ fn ask(
     tally: &mut Tally,
 ) -> Result<(), String> {
     let expected = expected(setup, request, datagram);
-    let answer = setup.datagram(datagram, &buffer(random), tally)?;
+    let answer = setup.datagram(archive, datagram, &buffer(random), tally)?;
     hear_whole(archive, setup, answer, Due::Said(&expected), tally)
         .map_err(|what| report(&what, datagram, None) + &format!("expected {expected:X?}\n"))
 }
@@ -427,7 +427,7 @@ fn other_alias(random: &mut Random, alias: u16) -> u16 {
 }
 
 /// What a buffer of at least 72 bytes holds before.
-fn buffer(random: &mut Random) -> Vec<u8> {
+pub fn buffer(random: &mut Random) -> Vec<u8> {
     let length = random.pick(&[72, 72, 72, 73, 100]);
     random.bytes(length)
 }
@@ -462,7 +462,7 @@ mod tests {
         let request = Request::in_datagram(datagram).expect("a request");
         let expected = expected(&setup, &request, datagram);
         let answer = setup
-            .datagram(datagram, &[0; 72], &mut tally)
+            .datagram(&Library, datagram, &[0; 72], &mut tally)
             .expect("no difference");
         let mut heard = |due: Due| hear_whole(&Library, &setup, answer, due, &mut tally).is_ok();
         assert!(heard(Due::Said(&expected)), "{request:?}");

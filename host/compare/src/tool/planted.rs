@@ -1,7 +1,7 @@
 //! Holds differences that are planted in what the library answers, one at a time. The comparison
 //! finds each of them, and nothing where there is none.
 
-use crate::ffi::tool::{Acknowledged, Bytes, Composed, Joined, Rejection, Reply};
+use crate::ffi::tool::{Acknowledged, Bytes, Change, Composed, Joined, Pair, Rejection, Reply};
 use crate::ffi::{Flag, Places, Pool};
 use crate::generate::good_board;
 use crate::guarded::Guarded;
@@ -412,6 +412,14 @@ impl Archive for Planted {
             _ => {}
         }
         joined
+    }
+
+    fn put_together(&self, earlier: Pair, later: Pair) -> Pair {
+        Library.put_together(earlier, later)
+    }
+
+    fn next_change(&self, before: &[u8], after: &[u8], from: usize, pairs: &mut Guarded) -> Change {
+        Library.next_change(before, after, from, pairs)
     }
 }
 

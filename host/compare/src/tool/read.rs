@@ -153,7 +153,7 @@ pub fn reply(archive: &impl Archive, datagram: &[u8]) -> Result<Said, String> {
 }
 
 /// What is lent to be read is as it was.
-fn untouched(lent: &Guarded, content: &[u8]) -> Result<(), &'static str> {
+pub fn untouched(lent: &Guarded, content: &[u8]) -> Result<(), &'static str> {
     same(
         lent.is_intact() && lent.bytes() == content,
         "what is lent to be read is changed",

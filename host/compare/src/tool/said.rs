@@ -2,7 +2,9 @@
 //! it: those that a kind does not name are 0, and what is missing is told apart from 0 and from an
 //! empty text.
 
-use crate::ffi::tool::{Acknowledged, Bytes, Composed, Information, Options, Rejection, Reply};
+use crate::ffi::tool::{
+    Acknowledged, Bytes, Change, Composed, Information, Options, Rejection, Reply,
+};
 use crate::ffi::Flag;
 use model::{NamedSpace, ReceivedOk, RejectedContent, ToolRefusal};
 
@@ -350,6 +352,25 @@ pub const fn composed(written: Result<usize, ToolRefusal>) -> Composed {
             refusal: refusal.number() as u32,
             len: 0,
         },
+    }
+}
+
+/// The numbers by which the library has to say what the next change is.
+#[must_use]
+pub const fn changed(found: Result<Option<model::Change>, ToolRefusal>) -> Change {
+    let (refusal, found) = match found {
+        Ok(found) => (0, found),
+        Err(refusal) => (refusal.number() as u32, None),
+    };
+    let (start, count) = match found {
+        Some(model::Change { start, count }) => (start, count),
+        None => (0, 0),
+    };
+    Change {
+        refusal,
+        given: Flag::of(found.is_some()),
+        start,
+        count,
     }
 }
 

@@ -1,0 +1,4 @@
+pub mod Examples
+pub mod Bits
+pub mod PairLaws
+pub mod ListLaws

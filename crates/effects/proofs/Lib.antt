@@ -1,0 +1,5 @@
+pub mod Examples
+pub mod StoreLaws
+pub mod ReadingLaws
+pub mod EffectLaws
+pub mod OrderLaws
