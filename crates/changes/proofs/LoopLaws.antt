@@ -15,6 +15,7 @@ use Rattle.buffer.specs.Buffer.{over}
 use Rattle.buffer.proofs.Laws.{put-sets, put-first}
 use Rattle.fields.specs.Commands.{Pair}
 use Rattle.writing.specs.Writing.{pairBytes}
+use Rattle.writing.proofs.WritingLaws.{pair-bytes-length}
 use Rattle.combining.specs.Combining.{untouched}
 use Rattle.differences.specs.Differences.{changeOf, difference, touches, beforeFirst, upToLast, startFrom, countAt, pairsAt, nextChange}
 use Rattle.differences.proofs.ByteLaws.{same-byte, other-byte}
@@ -108,11 +109,6 @@ last-none (suc k) l h = absurd (omega arith)
 
 -- ---- the pairs in a buffer
 
-pub bytes-length : (e : List Pair) → length (pairBytes e) ≡ 2 * length e
-unfolding pairBytes
-bytes-length [] = refl
-bytes-length (p ∷ e) = let h = bytes-length e in omega arith
-
 module _ (old new : List ℕ) (size : length old ≡ length new) where
   pub put-turn : (i : ℕ) (pairs : List ℕ) → i < length old →
       sets pairs (2 * i) (pairBytes (drop i (difference old new)))
@@ -128,7 +124,7 @@ module _ (old new : List ℕ) (size : length old ≡ length new) where
   unfolding pairBytes
   put-done pairs done i h room q =
       let n = difference-length old new size in
-      let m = bytes-length (difference old new) in
+      let m = pair-bytes-length (difference old new) in
       let none : drop i (difference old new) ≡ [] = drop-of-length-le (difference old new) {i = i} (omega arith) in
       sym (q ∙ ap (λ l. sets done (2 * i) (pairBytes l)) none) ∙ put-sets 0 (pairBytes (difference old new)) pairs (omega arith) ∙ put-first (pairBytes (difference old new)) pairs
 

@@ -7,9 +7,10 @@ use native.Mathlib.Omega.{arith}
 use lib.Bits.{and-zero-r}
 use lib.ListN.{length, drop, replicate, length-replicate}
 use lib.Seq.{getD-drop}
+use Rattle.buffer.specs.Buffer.{Bytes}
 use Rattle.fields.specs.Commands.{Pair}
 use Rattle.storing.specs.Storing.{masked}
-use Rattle.combining.specs.Combining.{untouched, putTogether, together, nothing, AllProper, NoCommonBit, Bytes, PairsAddUp}
+use Rattle.combining.specs.Combining.{untouched, putTogether, together, nothing, AllProper, NoCommonBit, PairsAddUp}
 use Rattle.combining.proofs.PairLaws as pairs
 
 cons : {p q : Pair} {e f : List Pair} → p ≡ q → e ≡ f → p ∷ e ≡ q ∷ f

@@ -95,8 +95,11 @@ groups {a} {b} {c} p q r = ap₂ pair (or-assoc (a .mask) (b .mask) (c .mask) (p
 pub untouched-proper : Proper untouched
 untouched-proper = record { mask = omega arith; value = omega arith; outside = refl }
 
+pub zero-mask : (o : ℕ) (p : Pair) → o < 256 → p .mask ≡ 0 → maskByte o p ≡ o
+zero-mask o p h e = rw (e, and-zero-r (p .value), or-zero-r (bitAnd o 255)) (and-mask o 8 ∙ mod-eq-of-lt h)
+
 pub kept : (o : ℕ) → o < 256 → maskByte o untouched ≡ o
-kept o h = or-zero-r (bitAnd o 255) ∙ and-mask o 8 ∙ mod-eq-of-lt h
+kept o h = zero-mask o untouched h refl
 
 over-zero : {p : Pair} → Proper p → maskByte 0 p ≡ p .value
 over-zero {p} h =

@@ -4,6 +4,7 @@ use mathlib.Core.Path.{_≡_}
 use mathlib.Core.List.{List, [], _∷_}
 use lib.Bits.{bitAnd, bitOr}
 use lib.ListN.{length, getD, replicate}
+use Rattle.buffer.specs.Buffer.{Bytes}
 use Rattle.fields.specs.Commands.{Pair, pair}
 use Rattle.storing.specs.Storing.{maskByte, masked}
 use Rattle.combining.specs.declared.MaskedByte.{MaskedByte}
@@ -51,10 +52,6 @@ AllProper e = (i : ℕ) → Proper (getD e i untouched)
 -- "touch no common bit of memory": of no byte the same bit is at 1 in both masks.
 abbrev pub NoCommonBit : List Pair → List Pair → Type 0
 NoCommonBit e f = (i : ℕ) → bitAnd (getD e i untouched .mask) (getD f i untouched .mask) ≡ 0
-
--- A content of memory.
-abbrev pub Bytes : List ℕ → Type 0
-Bytes memory = (i : ℕ) → getD memory i 0 < 256
 
 -- One mask and one data byte for each byte of a memory of m bytes.
 pub record Effect (m : ℕ) (e : List Pair) : Type 0 where

@@ -149,6 +149,15 @@ abbrev pub AllowedIn : Reading → Type 0
 AllowedIn (rejected code) = Unit {0}
 AllowedIn (request f q) = Allowed q
 
+-- what holds of every rejection, and of every kind of command, holds of a datagram as it is read
+pub each-reading : (P : Reading → Type 0) (d : List ℕ) → ((code : ℕ) → P (rejected code)) → ((k : Kind) → P (decodeKind k d)) → P (decode d)
+unfolding decode
+each-reading P d r f =
+    cond-elim P (eqb (length d) 0 || ltb 72 (length d)) {a = rejected 0x1080} (λ _. r 0x1080)
+    (λ _. cond-elim P (not (eqb (getD d 0 0) 0x20)) {a = rejected 0x1042} (λ _. r 0x1042)
+    (λ _. cond-elim P (eqb (length d) 1) {a = rejected 0x1080} {b = decodeKind (kindOf (getD d 1 0)) d} (λ _. r 0x1080)
+    (λ _. f (kindOf (getD d 1 0)))))
+
 orWrong-allowed : (t : Bool) (f : Form) (q : Request) → (t ≡ true → Allowed q) → AllowedIn (orWrong t (request f q))
 orWrong-allowed t f q g = cond-elim AllowedIn t g (λ _. tt)
 
@@ -172,9 +181,4 @@ kind-allowed UpdateComplete d = orWrong-allowed (eqb (length d) 2) NoSpace updat
 kind-allowed Unknown d = tt
 
 pub allowed : (d : List ℕ) → AllowedIn (decode d)
-unfolding decode
-allowed d =
-    cond-elim AllowedIn (eqb (length d) 0 || ltb 72 (length d)) {a = rejected 0x1080} (λ _. tt)
-    (λ _. cond-elim AllowedIn (not (eqb (getD d 0 0) 0x20)) {a = rejected 0x1042} (λ _. tt)
-    (λ _. cond-elim AllowedIn (eqb (length d) 1) {a = rejected 0x1080} {b = decodeKind (kindOf (getD d 1 0)) d} (λ _. tt)
-    (λ _. kind-allowed (kindOf (getD d 1 0)) d)))
+allowed d = each-reading AllowedIn d (λ _. tt) (λ k. kind-allowed k d)

@@ -4,8 +4,7 @@ use Prim.Native.Nat.{ℕ, zero, suc, _-_, _≤_, _<_, min}
 use mathlib.Core.Path.{_≡_, refl, sym, ap, ap₂, _∙_}
 use mathlib.Core.Bool.{true, false}
 use native.Mathlib.Omega.{arith}
-use native.Mathlib.Nat.{mod-eq-of-lt}
-use lib.Bits.{bitAnd, bitXor, differ, and-le-l, and-le-r, and-mask, and-zero-r, or-zero-r, xor-lt, xor-self, xor-add-and}
+use lib.Bits.{bitAnd, bitXor, differ, and-le-l, and-le-r, xor-lt, xor-self, xor-add-and}
 use borrow.Author.Tests.{ne-eqb}
 use Rattle.fields.specs.Commands.{Pair}
 use Rattle.storing.specs.Storing.{maskByte}
@@ -68,7 +67,3 @@ same-byte o n e = rw (e, xor-self n)
 
 pub other-byte : (o n : ℕ) → (o ≡ n → ⊥) → touches (changeOf o n) ≡ true
 other-byte o n h = rw (ne-eqb (bitXor o n) 0 (λ e. h (xor-zero o n e)))
-
--- a pair that touches no bit keeps the byte
-pub zero-mask : (o : ℕ) (p : Pair) → o < 256 → p .mask ≡ 0 → maskByte o p ≡ o
-zero-mask o p h e = rw (e, and-zero-r (p .value), or-zero-r (bitAnd o 255)) (and-mask o 8 ∙ mod-eq-of-lt h)

@@ -6,9 +6,10 @@ use mathlib.Core.List.{List, [], _∷_}
 use native.Mathlib.Omega.{arith}
 use lib.Bits.{bitAnd}
 use lib.ListN.{length, take, drop, getD}
+use Rattle.buffer.specs.Buffer.{Bytes}
 use Rattle.fields.specs.Commands.{Pair}
 use Rattle.storing.specs.Storing.{masked}
-use Rattle.combining.specs.Combining.{untouched, AllProper, Bytes, Effect}
+use Rattle.combining.specs.Combining.{untouched, AllProper, Effect}
 use Rattle.combining.proofs.PairLaws.{untouched-proper}
 use Rattle.combining.proofs.ListLaws.{first, rest}
 use Rattle.differences.specs.Differences.{changeOf, difference}

@@ -9,14 +9,15 @@ use lib.Dec.{ltb}
 use lib.ListN.{length, take, drop, getD, length-append, length-drop, take-append-drop, drop-of-length-le}
 use lib.Seq.{take-all, take-at, drop-at, take-add, drop-drop, length-take-le}
 use borrow.Author.Tests.{ltb-true, ltb-false, le-leb}
+use Rattle.buffer.specs.Buffer.{Bytes}
 use Rattle.fields.specs.Commands.{Pair}
 use Rattle.storing.specs.Storing.{maskByte, masked, storeMasked}
 use Rattle.storing.proofs.Laws.{masked-length}
-use Rattle.combining.specs.Combining.{untouched, Bytes}
+use Rattle.combining.specs.Combining.{untouched}
+use Rattle.combining.proofs.PairLaws.{zero-mask}
 use Rattle.combining.proofs.ListLaws.{drop-bytes}
 use Rattle.differences.specs.Differences.{touches, beforeFirst, startFrom, countAt, pairsAt}
 use Rattle.differences.specs.Writes.{writeAt, writesFrom, storeAll}
-use Rattle.differences.proofs.ByteLaws.{zero-mask}
 use Rattle.differences.proofs.SearchLaws.{no-bit, none-before, start-touches, some-pairs, count-fits, pairs-length}
 
 -- ---- parts of what pairs do

@@ -6,10 +6,11 @@ use mathlib.Core.List.{List, [], _∷_}
 use lib.Bits.{bitAnd}
 use lib.Dec.{ltb}
 use lib.ListN.{length, getD}
+use Rattle.buffer.specs.Buffer.{Bytes}
 use Rattle.fields.specs.Commands.{Pair}
 use Rattle.storing.specs.Storing.{masked, storeMasked}
 use Rattle.reception.specs.Order.{Each}
-use Rattle.combining.specs.Combining.{untouched, Bytes, Effect}
+use Rattle.combining.specs.Combining.{untouched, Effect}
 use Rattle.differences.specs.Differences.{difference, startFrom, pairsAt}
 
 -- A masked write: from an index of an image on.

@@ -6,6 +6,7 @@ use mathlib.Core.Bool.{true, false}
 use mathlib.Core.List.{List, [], _∷_, _++_, map}
 use native.Mathlib.Omega.{arith}
 use lib.ListN.{length, length-map}
+use Rattle.buffer.specs.Buffer.{Bytes}
 use Rattle.buffer.proofs.Choice.{clash}
 use Rattle.house.specs.HouseNumbers.{descriptionHouse}
 use Rattle.house.specs.declared.HouseNumber.the-variants.{Good}
@@ -25,7 +26,7 @@ use Rattle.handling.specs.Access.{writeResult, memoryAfter}
 use Rattle.handling.specs.Performing.{perform}
 use Rattle.handling.specs.Handling.{Fixed, Contents, contents, answerReading, handle}
 use Rattle.reception.specs.Order.{Each}
-use Rattle.combining.specs.Combining.{plain, zeroOutside, together, nothing, AllProper, Bytes, Effect}
+use Rattle.combining.specs.Combining.{plain, zeroOutside, together, nothing, AllProper, Effect}
 use Rattle.combining.proofs.PairLaws.{mask-small}
 use Rattle.combining.proofs.ListLaws.{add-up}
 use Rattle.effects.specs.Effects.{Written, noWrite, pairsFrom, requestWrites, readingWrites, writtenBy, isPairs, isWrite, reachedBy, isReached, acceptedPairs, accepted, placedFrom, reachedEffect, writtenEffect, effectOf, effectOfAll, contentsAfter, AcceptedWrites, Content, Does, AddsUp, OnGoodBoards}

@@ -6,6 +6,7 @@ use mathlib.Core.Bool.{true}
 use mathlib.Core.List.{List, [], _∷_, _++_}
 use lib.Bits.{bitAnd}
 use lib.ListN.{length, getD}
+use Rattle.buffer.specs.Buffer.{Bytes}
 use Rattle.buffer.proofs.Choice.{clash}
 use Rattle.house.specs.HouseNumbers.{descriptionHouse}
 use Rattle.house.specs.declared.HouseNumber.the-variants.{Good}
@@ -17,7 +18,7 @@ use Rattle.storing.specs.Storing.{masked}
 use Rattle.handling.specs.Performing.{perform}
 use Rattle.handling.specs.Handling.{Fixed, Contents, contents, answerReading, handle}
 use Rattle.reception.specs.Order.{Each}
-use Rattle.combining.specs.Combining.{untouched, together, nothing, NoCommonBit, Bytes}
+use Rattle.combining.specs.Combining.{untouched, together, nothing, NoCommonBit}
 use Rattle.combining.proofs.ListLaws.{add-up}
 use Rattle.effects.specs.Effects.{requestWrites, readingWrites, writtenBy, isPairs, isWrite, accepted, effectOf, effectOfAll, contentsAfter, Content}
 use Rattle.effects.specs.AnyOrder.{Apart, TwoWrites, Interleaved, none, left, right, resultsOf, AllApart, Interleaves, WritesAddUp}

@@ -1,19 +1,21 @@
 -- Of a datagram of bytes, the pairs that it writes are of bytes, and zero outside the mask.
 -- Assumes nothing.
 use Prim.Native.Nat.{ℕ}
-use mathlib.Core.Bool.{Bool, not, _&&_, _||_}
+use mathlib.Core.Bool.{Bool, _&&_}
 use mathlib.Core.List.{List}
-use lib.Dec.{ltb, eqb}
+use lib.Dec.{eqb}
 use lib.ListN.{length, getD, drop}
+use Rattle.buffer.specs.Buffer.{Bytes}
 use Rattle.buffer.proofs.Choice.{cond-elim}
 use Rattle.limits.specs.Limits.{countFits, bytesFit, pairsFit}
-use Rattle.fields.specs.Commands.{Request, read, write, writeMasked, options, information, reserve, updateComplete, pairsOf, kindOf, headLength, formIn, spaceOf, addressOf, restOf}
+use Rattle.fields.specs.Commands.{Request, read, write, writeMasked, options, information, reserve, updateComplete, pairsOf, headLength, formIn, spaceOf, addressOf, restOf}
 use Rattle.fields.specs.declared.Form.{Form}
 use Rattle.fields.specs.declared.Form.the-variants.{NoSpace}
 use Rattle.fields.specs.declared.Kind.{Kind}
 use Rattle.fields.specs.declared.Kind.the-variants.{Read, Write, WriteMasked, Options, Information, Lock, UpdateComplete, Unknown}
+use Rattle.command.proofs.Laws.{each-reading}
 use Rattle.command.specs.Decoding.{Reading, rejected, request, orWrong, countOf, decodeRead, decodeWrite, decodeMasked, decodeKind, decode}
-use Rattle.combining.specs.Combining.{AllProper, Bytes}
+use Rattle.combining.specs.Combining.{AllProper}
 use Rattle.combining.proofs.ListLaws.{drop-bytes}
 use Rattle.effects.specs.Effects.{Written, noWrite, pairsFrom, requestWrites, readingWrites, writtenBy}
 use Rattle.effects.proofs.StoreLaws.{BytePairs, byte-pairs, plain-proper, outside-proper}
@@ -51,12 +53,7 @@ kind-bytes UpdateComplete d h = or-wrong (eqb (length d) 2) NoSpace updateComple
 kind-bytes Unknown d h = tt
 
 pub decoded-bytes : (d : List ℕ) → Bytes d → BytesIn (decode d)
-unfolding decode
-decoded-bytes d h =
-    cond-elim BytesIn (eqb (length d) 0 || ltb 72 (length d)) {a = rejected 0x1080} (λ _. tt)
-    (λ _. cond-elim BytesIn (not (eqb (getD d 0 0) 0x20)) {a = rejected 0x1042} (λ _. tt)
-    (λ _. cond-elim BytesIn (eqb (length d) 1) {a = rejected 0x1080} {b = decodeKind (kindOf (getD d 1 0)) d} (λ _. tt)
-    (λ _. kind-bytes (kindOf (getD d 1 0)) d h)))
+decoded-bytes d h = each-reading BytesIn d (λ _. tt) (λ k. kind-bytes k d h)
 
 -- ---- the pairs that it writes
 

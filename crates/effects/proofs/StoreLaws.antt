@@ -7,11 +7,11 @@ use native.Mathlib.Omega.{arith}
 use lib.ListN.{length, take, drop, getD, length-append, length-drop, length-replicate}
 use lib.Seq.{drop-drop}
 use borrow.Author.Tests.{le-leb}
-use Rattle.buffer.specs.Buffer.{putAt}
+use Rattle.buffer.specs.Buffer.{putAt, Bytes}
 use Rattle.buffer.proofs.Laws.{placed-fits}
 use Rattle.fields.specs.Commands.{Pair, pairsOf}
 use Rattle.storing.specs.Storing.{storeBytes, maskByte, masked, storeMasked}
-use Rattle.combining.specs.Combining.{untouched, plain, zeroOutside, nothing, AllProper, Bytes, Effect}
+use Rattle.combining.specs.Combining.{untouched, plain, zeroOutside, nothing, AllProper, Effect}
 use Rattle.combining.proofs.PairLaws as pairs
 use Rattle.combining.proofs.ListLaws.{add-up}
 use Rattle.effects.specs.Effects.{placedFrom}

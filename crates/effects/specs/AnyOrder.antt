@@ -4,11 +4,12 @@ use Prim.Native.Nat.{ℕ}
 use mathlib.Core.Path.{_≡_}
 use mathlib.Core.Bool.{true}
 use mathlib.Core.List.{List, [], _∷_, _++_}
+use Rattle.buffer.specs.Buffer.{Bytes}
 use Rattle.table.specs.declared.Space.{Space}
 use Rattle.answer.specs.Answers.{Result}
 use Rattle.handling.specs.Handling.{Fixed, Contents, handle}
 use Rattle.reception.specs.Order.{Each}
-use Rattle.combining.specs.Combining.{NoCommonBit, Bytes, PairsAddUp}
+use Rattle.combining.specs.Combining.{NoCommonBit, PairsAddUp}
 use Rattle.effects.specs.Effects.{accepted, isWrite, effectOf, contentsAfter, AcceptedWrites, Content, AddsUp, OnGoodBoards}
 
 -- ---- two writes

@@ -4,6 +4,7 @@ use mathlib.Core.Path.{_≡_}
 use mathlib.Core.Bool.{Bool, true, false}
 use mathlib.Core.List.{List, [], _∷_, _++_, map}
 use lib.ListN.{length}
+use Rattle.buffer.specs.Buffer.{Bytes}
 use Rattle.table.specs.declared.Space.{Space}
 use Rattle.board.specs.Description.{findSpace}
 use Rattle.house.specs.HouseNumbers.{descriptionHouse}
@@ -17,7 +18,7 @@ use Rattle.answer.specs.Answers.{answerOf, transportOf, okFlags}
 use Rattle.storing.specs.Storing.{masked}
 use Rattle.handling.specs.Handling.{Fixed, Contents, handle}
 use Rattle.reception.specs.Order.{Each}
-use Rattle.combining.specs.Combining.{plain, zeroOutside, together, nothing, Bytes, Effect}
+use Rattle.combining.specs.Combining.{plain, zeroOutside, together, nothing, Effect}
 
 -- ---- what a datagram writes
 

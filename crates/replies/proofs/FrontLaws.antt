@@ -8,11 +8,12 @@ use native.Mathlib.Omega.{arith}
 use lib.ListN.{length, getD, drop}
 use lib.Seq.{drop-cons}
 use borrow.Author.Tests.{lt-leb}
+use Rattle.buffer.specs.Buffer.{Bytes}
 use Rattle.buffer.specs.BigEndian.{numberOf, bytesOf, twoBytes}
 use Rattle.fields.specs.Commands.{formBits, lowForm, formOf, formIn, headLength, spaceOf, addressOf}
 use Rattle.fields.specs.declared.Form.{Form}
 use Rattle.fields.specs.declared.Form.the-variants.{NoSpace, Byte6, Fd, Fe, Ff}
-use Rattle.replies.specs.ReplyForms.{front, Names, Bytes}
+use Rattle.replies.specs.ReplyForms.{front, Names}
 use Rattle.replies.specs.Finding.{headIn}
 
 -- ---- numbers and their bytes

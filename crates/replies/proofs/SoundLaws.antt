@@ -10,11 +10,12 @@ use lib.Dec.{leb, ltb, eqb}
 use lib.ListN.{length, getD, drop, length-drop, drop-of-length-le}
 use lib.Seq.{drop-cons, take-all}
 use borrow.Author.Tests.{leb-true, ltb-true, eqb-true, eqb-false}
+use Rattle.buffer.specs.Buffer.{Bytes}
 use Rattle.buffer.specs.BigEndian.{numberOf, bytesOf, twoBytes}
 use Rattle.buffer.proofs.Choice.{cond-elim, and-left, and-right, by-test}
 use Rattle.buffer.proofs.Ends.{part-rest}
 use Rattle.fields.specs.Commands.{within, formIn, spaceOf, addressOf}
-use Rattle.replies.specs.ReplyForms.{Text, textBytes, lowestBytes, addressBytes, Reply, read, readFailure, written, writeFailure, options, information, locked, replyBytes, Ended, EndedBehind, bit1, given, Formed, IsReply, Bytes}
+use Rattle.replies.specs.ReplyForms.{Text, textBytes, lowestBytes, addressBytes, Reply, read, readFailure, written, writeFailure, options, information, locked, replyBytes, Ended, EndedBehind, bit1, given, Formed, IsReply}
 use Rattle.replies.specs.Finding.{isText, textFrom, replyKind, headIn, orNone, findRead, findWritten, codeIn, failureFits, messageIn, findReadFailure, findWriteFailure, lowestIn, findOptions, isGiven, descriptionStart, addressIn, findInformation, findLocked, findKind, findReply, bytesAt, textOf, lowestOf, lowestAddressOf, replyOf}
 use Rattle.replies.specs.declared.ReplyIn.{ReplyIn}
 use Rattle.replies.specs.declared.ReplyIn.the-variants as found

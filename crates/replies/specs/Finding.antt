@@ -7,9 +7,10 @@ use mathlib.Core.List.{List, [], _∷_}
 use mathlib.Core.Option.{Option, none, some}
 use lib.Dec.{leb, ltb, eqb}
 use lib.ListN.{length, getD, take, drop}
+use Rattle.buffer.specs.Buffer.{Bytes}
 use Rattle.buffer.specs.BigEndian.{numberOf}
 use Rattle.fields.specs.Commands.{within, formIn, headLength, spaceOf, addressOf}
-use Rattle.replies.specs.ReplyForms.{Text, noText, text, Lowest, noLowest, lowest, LowestAddress, noAddress, lowestAddress, Reply, read, readFailure, written, writeFailure, options, information, locked, bit1, IsReply, Bytes}
+use Rattle.replies.specs.ReplyForms.{Text, noText, text, Lowest, noLowest, lowest, LowestAddress, noAddress, lowestAddress, Reply, read, readFailure, written, writeFailure, options, information, locked, bit1, IsReply}
 use Rattle.replies.specs.declared.TextIn.{TextIn}
 use Rattle.replies.specs.declared.TextIn.the-variants.{NoText, TextAt}
 use Rattle.replies.specs.declared.LowestIn.{LowestIn}

@@ -1,11 +1,11 @@
 -- Source document 000, sections 4.5, 4.9, 4.14, 4.16 and 4.18: the language of the replies to the commands of document 01. Each reply is given
 -- by its fields and the bytes that they make: nothing here says how a datagram is taken apart.
-use Prim.Native.Nat.{ℕ, _+_, _/_, _%_, _≤_, _<_}
+use Prim.Native.Nat.{ℕ, _+_, _/_, _%_, _≤_}
 use mathlib.Core.Path.{_≡_}
 use mathlib.Core.Bool.{Bool, true, cond, not, _&&_}
 use mathlib.Core.List.{List, [], _∷_, _++_}
 use lib.Dec.{eqb}
-use lib.ListN.{length, getD}
+use lib.ListN.{length}
 use Rattle.buffer.specs.BigEndian.{bytesOf, twoBytes}
 use Rattle.fields.specs.Commands.{formBits, spaceByte}
 use Rattle.fields.specs.declared.Form.{Form}
@@ -110,9 +110,6 @@ Formed (options commands lengths highest low) = EndedBehind low
 Formed (information present space highest flags low description) = (bit1 flags ≡ given low) × Ended description
 Formed (locked id) = length id ≡ 6
 
--- The datagram d is this reply: "No reply is over 72 bytes." That numbers fit their bytes follows where d is made of bytes.
+-- The datagram d is this reply: "No reply is over 72 bytes." That numbers fit their bytes follows where d is made of bytes (`buffer: Buffer.Bytes`).
 abbrev pub IsReply : List ℕ → Reply → Type 0
 IsReply d x = (replyBytes x ≡ d) × Formed x × (length d ≤ 72)
-
-abbrev pub Bytes : List ℕ → Type 0
-Bytes d = (i : ℕ) → getD d i 0 < 256

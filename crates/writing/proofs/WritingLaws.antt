@@ -50,7 +50,7 @@ form-said command m l s =
 
 -- ---- the bytes of pairs
 
-pair-bytes-length : (ps : List Pair) → length (pairBytes ps) ≡ 2 * length ps
+pub pair-bytes-length : (ps : List Pair) → length (pairBytes ps) ≡ 2 * length ps
 unfolding pairBytes
 pair-bytes-length [] = refl
 pair-bytes-length (p ∷ more) = let ih = pair-bytes-length more in omega arith
