@@ -14,7 +14,7 @@ use Rattle.effects.specs.Effects.{accepted, isWrite, effectOf, contentsA
 
 -- ---- two writes
 
--- A write touches the bits that its masks have at 1, "all eight" for a plain write, in the bytes of memory that it reaches. So two that name one
+-- A write touches the bits that its masks have at 1, all eight for a plain write, in the bytes of memory that it reaches. So two that name one
 -- byte by different spaces or addresses may touch a common bit, and two with the same address may touch none.
 abbrev pub Apart : List Space → ℕ → List ℕ → List ℕ → Type 0
 Apart spaces m d e = NoCommonBit (effectOf spaces m d) (effectOf spaces m e)
