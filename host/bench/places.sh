@@ -7,7 +7,7 @@ set -eu
 cd "$(dirname "$0")/../.."
 
 work="$PWD/target/bench/places"
-library="$PWD/target/staticlib/libdriver.a"
+library="$PWD/target/staticlib/libbujorelm.a"
 if [ ! -f "$library" ]; then
     echo "host/bench: $library is missing" >&2
     exit 1
@@ -20,12 +20,12 @@ export CARGO_TARGET_DIR
 for shift in 0 16 32 48; do
     mkdir "$work/$shift"
     cat >"$work/$shift/script" <<END
-SECTIONS { .text.driver ALIGN(64) : { . = $shift; *(.text .text.*) } }
+SECTIONS { .text.bujorelm ALIGN(64) : { . = $shift; *(.text .text.*) } }
 END
     (cd "$work/$shift" && ar x "$library" && ld -r -T script ./*.o -o moved &&
-        objcopy --set-section-alignment .text.driver=64 moved driver.o &&
-        ar rcs libdriver.a driver.o)
-    LIBDRIVER="$work/$shift" \
+        objcopy --set-section-alignment .text.bujorelm=64 moved bujorelm.o &&
+        ar rcs libbujorelm.a bujorelm.o)
+    LIBBUJORELM="$work/$shift" \
         cargo build --release --offline --quiet --manifest-path host/bench/Cargo.toml
     cp "$CARGO_TARGET_DIR/release/bench" "$work/$shift/bench"
 done

@@ -678,7 +678,7 @@ int main(int argc, char **argv)
         fail("signal");
     }
     if (!bujorelm_version_fits()) {
-        fputs("host: libdriver.a is of another version than bujorelm.h\n", stderr);
+        fputs("host: libbujorelm.a is of another version than bujorelm.h\n", stderr);
         return EXIT_FAILURE;
     }
     if (argc == 1) {

@@ -4,15 +4,16 @@
 #
 # usage: host/c/run-tests.sh [ROOT]
 #
-# ROOT is the root of the repository (default: the one that this file is in). ROOT/target/staticlib/libdriver.a and libtool.a must be there, as
-# built by `rt staticlib driver` and `rt staticlib tool`. Everything else is built into ROOT/target/host-c. CC and CXX choose the compilers.
+# ROOT is the root of the repository (default: the one that this file is in). ROOT/target/staticlib/libbujorelm.a and
+# libbujorelm_tool.a must be there, as built by `rt staticlib bujorelm` and `rt staticlib bujorelm_tool`. Everything
+# else is built into ROOT/target/host-c. CC and CXX choose the compilers.
 set -eu
 
 root=${1:-$(dirname "$0")/../..}
 root=$(cd "$root" && pwd)
 here=$root/host/c
-library=$root/target/staticlib/libdriver.a
-tool=$root/target/staticlib/libtool.a
+library=$root/target/staticlib/libbujorelm.a
+tool=$root/target/staticlib/libbujorelm_tool.a
 out=$root/target/host-c
 
 fail() {
@@ -20,8 +21,8 @@ fail() {
     exit 1
 }
 
-[ -f "$library" ] || fail "$library is not there: run rt staticlib driver"
-[ -f "$tool" ] || fail "$tool is not there: run rt staticlib tool"
+[ -f "$library" ] || fail "$library is not there: run rt staticlib bujorelm"
+[ -f "$tool" ] || fail "$tool is not there: run rt staticlib bujorelm_tool"
 for program in "${CC:=cc}" "${CXX:=c++}" python3 valgrind nm objdump; do
     command -v "$program" > /dev/null || fail "$program is not there"
 done
@@ -79,8 +80,10 @@ echo "host/c: the library"
 outside() {
     nm -u "$1" | sed -n 's/^ *U //p' | sort -u | tr '\n' ' '
 }
-[ "$(outside "$library")" = "memcpy memset " ] || fail "what libdriver.a calls outside itself is not what the header says: $(outside "$library")"
-[ -z "$(outside "$tool")" ] || fail "libtool.a calls outside itself, which the header excludes: $(outside "$tool")"
+[ "$(outside "$library")" = "memcpy memset " ] ||
+    fail "what libbujorelm.a calls outside itself is not what the header says: $(outside "$library")"
+[ -z "$(outside "$tool")" ] ||
+    fail "libbujorelm_tool.a calls outside itself, which the header excludes: $(outside "$tool")"
 python3 "$here/tests/digits_test.py" "$root" "$out"
 compile library "-O2 -g" tests/library.c
 "$out/library"

@@ -1,16 +1,16 @@
 //! Holds where the two archives of the library are found: in `target/staticlib` at the root of the
-//! repository, but the board's in the directory that `LIBDRIVER` names, if it names one.
+//! repository, but the board's in the directory that `LIBBUJORELM` names, if it names one.
 
 use std::env;
 use std::path::{Path, PathBuf};
 
 fn main() {
     let package = env::var("CARGO_MANIFEST_DIR").expect("cargo names the package's directory");
-    println!("cargo:rerun-if-env-changed=LIBDRIVER");
+    println!("cargo:rerun-if-env-changed=LIBBUJORELM");
     let built = Path::new(&package).join("../../target/staticlib");
-    let named = env::var("LIBDRIVER").map_or_else(|_| built.clone(), PathBuf::from);
+    let named = env::var("LIBBUJORELM").map_or_else(|_| built.clone(), PathBuf::from);
     // Both have the board's archive at times: the first directory decides.
-    for (half, directory) in [("driver", named), ("tool", built)] {
+    for (half, directory) in [("bujorelm", named), ("bujorelm_tool", built)] {
         let library = directory.join(format!("lib{half}.a"));
         assert!(
             library.exists(),

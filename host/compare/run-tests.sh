@@ -2,8 +2,9 @@
 # Holds the test run of the comparison: the tests of this package, and library and model compared
 # at every age of a held place, and by random calls with a fixed seed and with one from the clock.
 # (The model has tests of its own.)
-# Both archives of the library have to be there: target/staticlib/libdriver.a, the board's half, built
-# by `rt staticlib driver`, and target/staticlib/libtool.a, the tool's, built by `rt staticlib tool`.
+# Both archives of the library have to be there: target/staticlib/libbujorelm.a, the board's half,
+# built by `rt staticlib bujorelm`, and target/staticlib/libbujorelm_tool.a, the tool's, built by
+# `rt staticlib bujorelm_tool`.
 set -eu
 cd "$(dirname "$0")/../.."
 
@@ -12,7 +13,7 @@ export CARGO_TARGET_DIR
 # Of 700 calls one is for writes that add up, and of 21 others one is for the tool's half.
 calls=21000000
 
-for half in driver tool; do
+for half in bujorelm bujorelm_tool; do
     if [ ! -f "target/staticlib/lib$half.a" ]; then
         echo "host/compare: target/staticlib/lib$half.a is missing: build it with \`rt staticlib $half\`" >&2
         exit 1

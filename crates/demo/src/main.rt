@@ -1,6 +1,7 @@
-// The demonstration program of document 01: reads GridConnect lines from standard input to its end, and prints what the demonstration
-// board answers to each. What it prints is the library's (crate `chunks`): this program only reads and writes.
-use input::Carry;
+// The demonstration program of document 01: reads GridConnect lines from standard input to its end, and prints what the
+// demonstration board answers to each. What it prints is the library's (crate `gridconnect_session`): this program only
+// reads and writes.
+use gridconnect_input::Carry;
 
 mod standard;
 
@@ -13,8 +14,8 @@ struct Turn {
     carry: Carry,
 }
 
-// A block of the input: its lines are answered, as many at a time as `out` has room for, and each text is written. Nothing more is answered
-// where a text could not be written.
+// A block of the input: its lines are answered, as many at a time as `out` has room for, and each text is written.
+// Nothing more is answered where a text could not be written.
 fn answer_block(
     spaces: &[u8],
     flash: &[u8],
@@ -31,9 +32,9 @@ fn answer_block(
     let mut carry = begun;
     let mut at: usize = 0;
     while at < block.len() {
-        let done = chunks::answer_chunk(
-            demonstration::alias(),
-            demonstration::write_lengths(),
+        let done = gridconnect_session::answer_chunk(
+            demo_board::alias(),
+            demo_board::write_lengths(),
             spaces,
             flash,
             memory,
@@ -73,9 +74,9 @@ fn answer_read(
         let block = buffer::part(input, 0, n);
         return answer_block(spaces, flash, memory, lock, pool, places, block, begun, out);
     }
-    let end = chunks::answer_end(
-        demonstration::alias(),
-        demonstration::write_lengths(),
+    let end = gridconnect_session::answer_end(
+        demo_board::alias(),
+        demo_board::write_lengths(),
         spaces,
         flash,
         memory,
@@ -94,15 +95,15 @@ fn answer_read(
 
 // A proved loop has to end, and nothing says that the input does: the reads are counted down.
 fn main() {
-    let spaces = demonstration::table_bytes();
-    let flash = demonstration::flash_bytes();
-    let mut memory = demonstration::memory_bytes();
+    let spaces = demo_board::table_bytes();
+    let flash = demo_board::flash_bytes();
+    let mut memory = demo_board::memory_bytes();
     let mut lock = [0u8; 6];
     let mut pool = [0u8; 576];
-    let mut places = reception::new_places();
+    let mut places = rx_spec::new_places();
     let mut input = io::large_buffer();
     let mut out = io::large_buffer();
-    let mut carry = input::start();
+    let mut carry = gridconnect_input::start();
     let mut more = true;
     let mut reads = u64::MAX;
     while reads > 0 && more {

@@ -1,5 +1,5 @@
-// Standard input and standard output. A call that a signal interrupts before it moves a byte is made again; a call that fails ends the
-// program, which says so on standard error.
+// Standard input and standard output. A call that a signal interrupts before it moves a byte is made again; a call that
+// fails ends the program, which says so on standard error.
 use libc::EINTR;
 use libc::STDIN_FILENO;
 use libc::STDOUT_FILENO;
@@ -20,8 +20,8 @@ fn goes_on(moved: isize) -> bool {
     is_interrupted()
 }
 
-// Reads some bytes, and returns how many: none at the end of the input. A proved loop has to end, and nothing says that interruptions do: the
-// calls are counted down.
+// Reads some bytes, and returns how many: none at the end of the input. A proved loop has to end, and nothing says that
+// interruptions do: the calls are counted down.
 pub fn read(input: &mut [u8]) -> usize {
     let mut calls = u64::MAX;
     while calls > 0 {

@@ -11,7 +11,7 @@ use std::hint::black_box;
 
 use compare::ffi::{self, Lock, Places, Pool, PLACE_BYTES};
 use compare::layout::{canonical, frame_bytes, set_place, unfinished, Held};
-use model::{FrameAnswer, HouseNumber, Reception, Space, Unfinished, MOST_SENT};
+use model::{CallError, FrameAnswer, Reception, Space, Unfinished, MOST_SENT};
 
 /// A frame to be fed in.
 #[derive(Clone, Copy, Debug)]
@@ -276,7 +276,7 @@ impl ModelBoard {
 
     /// Brings a lone tick.
     #[inline]
-    pub fn tick(&mut self) -> Result<(), HouseNumber> {
+    pub fn tick(&mut self) -> Result<(), CallError> {
         model::handle_time(black_box(&mut self.reception), black_box(u64::from(TICK)))
     }
 

@@ -152,7 +152,8 @@ static void start(void)
 int main(int argc, char **argv)
 {
     if (argc != 3 || !bujorelm_version_fits()) {
-        fputs(argc != 3 ? "usage: socketcan INTERFACE FILE\n" : "libdriver.a is of another version than bujorelm.h\n", stderr);
+        fputs(argc != 3 ? "usage: socketcan INTERFACE FILE\n" : "libbujorelm.a is of another version than bujorelm.h\n",
+              stderr);
         return 2;
     }
     start();

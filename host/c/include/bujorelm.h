@@ -2,12 +2,13 @@
  * bujorelm.h - the board's side of OpenLCB memory configuration, for a CAN driver in C.
  *
  * Platform:  x86-64 with the System V calling convention, as on Linux.
- * Toolchain: Rattle, in the version that docs/ASSUMPTIONS.md names; the archive is built by `rt staticlib driver`.
+ * Toolchain: Rattle, in the version that docs/ASSUMPTIONS.md names; the archive is built by `rt staticlib bujorelm`.
  *
- * The archive libdriver.a holds machine code for x86-64 and for nothing else today. It cannot be linked into the firmware of a board with
- * another processor, such as an ARM Cortex-M: that needs a backend of the toolchain for that processor, and then the layout below has to
- * be held against that backend's. Until then the library serves boards and gateways that are x86-64 machines, and tests on a PC. The
- * compiler is stopped below where the platform or the layout of a struct is not the library's.
+ * The archive libbujorelm.a holds machine code for x86-64 and for nothing else today. It cannot be linked into the
+ * firmware of a board with another processor, such as an ARM Cortex-M: that needs a backend of the toolchain for that
+ * processor, and then the layout below has to be held against that backend's. Until then the library serves boards and
+ * gateways that are x86-64 machines, and tests on a PC. The compiler is stopped below where the platform or the layout
+ * of a struct is not the library's.
  *
  * The library joins the datagram frames that a board receives, handles each finished datagram, and gives the frames that the board sends
  * back. "Document 01" below is the paper that fixes its behaviour, and "C-14" and "C-15" the change requests of these names in document 02, which
@@ -30,7 +31,7 @@
  *   it is anything else, and the bytes that are said to mean nothing may hold anything. Numbers of several bytes have the least significant
  *   byte first.
  * - Apart from pointers that do not lead to as many bytes as they should, there is no input that a function cannot take: every wrong
- *   value is refused, by a house number or as the function says, and then nothing changes.
+ *   value is refused, with one of the caller's errors or as the function says, and then nothing changes.
  */
 #ifndef BUJORELM_H
 #define BUJORELM_H
@@ -40,7 +41,7 @@
 #include <stdint.h>
 
 #if !defined(__x86_64__) || defined(_WIN32)
-#error "libdriver.a is for x86-64 with the System V calling convention only"
+#error "libbujorelm.a is for x86-64 with the System V calling convention only"
 #endif
 
 #ifdef __cplusplus
@@ -51,7 +52,7 @@ extern "C" {
 
 /* The version of this header: major in the upper 16 bits, minor in the lower 16. Another major is another interface; a greater minor has
    more, and all that a smaller one has. bujorelm_version_fits compares it with the archive's. */
-#define BUJORELM_VERSION 0x00050000u
+#define BUJORELM_VERSION 0x00060000u
 
 /* ---- Sizes ---- */
 
@@ -102,8 +103,8 @@ extern "C" {
 /* What came of a call: `kind` in struct bujorelm_result. What is to be sent is among the frames that bujorelm_handle_frame gives. A call that
    brings a tick and is not refused, of whatever kind it then is, has first freed the places that were too old. */
 enum bujorelm_kind {
-    /* Refused because of what the caller handed in; `house` says why, and `position` which space is wrong. Nothing is sent and nothing has
-       changed: no place is freed for its age either. */
+    /* Refused because of what the caller handed in; `error` says why, and `position` which space is wrong. Nothing is
+       sent and nothing has changed: no place is freed for its age either. */
     BUJORELM_REFUSED = 0,
     /* Not a frame for this board: another header, another destination, the board's own alias as source, a header over 29 bits, data
        over 8 bytes. Nothing is sent, and nothing has changed but that places that were too old are free. */
@@ -133,35 +134,37 @@ enum bujorelm_kind {
 };
 
 /*
- * The house numbers: mistakes of the caller, never sent on the bus. They are tested first at each call, in this order, but for B2 to B5, which
- * are tested for one space after the other: the first space with a mistake decides. These four bring its position in the table, counted from
- * 0; the others have none. There is no B1, B8 or B10.
+ * The errors of the caller: what is wrong with what a call is handed. They are returned, and never sent on the bus.
+ * Document 01 calls them the house numbers. They are tested first at each call, in this order, but for B2 to B5, which
+ * are tested for one space after the other: the first space with an error decides. These four bring its position in the
+ * table, counted from 0; the others have none. There is no B1, B8 or B10.
  */
-enum bujorelm_house {
-    BUJORELM_HOUSE_NONE = 0,
+enum bujorelm_error {
+    /* No error: the call is not refused. */
+    BUJORELM_ERROR_NONE = 0,
     /* More than 16 spaces. */
-    BUJORELM_HOUSE_B11 = 11,
+    BUJORELM_ERROR_B11_TOO_MANY_SPACES = 11,
     /* Memory over 65,536 bytes. */
-    BUJORELM_HOUSE_B12 = 12,
+    BUJORELM_ERROR_B12_MEMORY_TOO_LARGE = 12,
     /* Flash over 65,536 bytes. */
-    BUJORELM_HOUSE_B13 = 13,
+    BUJORELM_ERROR_B13_FLASH_TOO_LARGE = 13,
     /* The alias is not 1 to 4,095. */
-    BUJORELM_HOUSE_B14 = 14,
+    BUJORELM_ERROR_B14_ALIAS_OUT_OF_RANGE = 14,
     /* A space's lowest address is above its highest. */
-    BUJORELM_HOUSE_B2 = 2,
+    BUJORELM_ERROR_B2_LOWEST_ABOVE_HIGHEST = 2,
     /* A space reaches past the end of the memory or flash that it lies in. */
-    BUJORELM_HOUSE_B3 = 3,
+    BUJORELM_ERROR_B3_WINDOW_PAST_END = 3,
     /* A space in flash, or space 0xFF, is not read-only. */
-    BUJORELM_HOUSE_B4 = 4,
+    BUJORELM_ERROR_B4_MUST_BE_READ_ONLY = 4,
     /* An earlier space has the same number. */
-    BUJORELM_HOUSE_B5 = 5,
+    BUJORELM_ERROR_B5_NUMBER_USED_TWICE = 5,
     /* The reply buffer has fewer than 72 bytes. */
-    BUJORELM_HOUSE_B6 = 6,
+    BUJORELM_ERROR_B6_REPLY_BUFFER_TOO_SHORT = 6,
     /* In bujorelm_handle_frame, and the only one in bujorelm_handle_tick: the reception state holds an unfinished datagram over 72 bytes, or
        a place for a source over 4,095, or two places for one source. A place whose source is being swallowed counts like any other, but holds
        no datagram, so that nothing is asked of its length. A state that starts all zero and is changed by calls alone has none of it. It is
        tested before any place is freed for its age, and asks nothing of the ticks in the state. */
-    BUJORELM_HOUSE_B7 = 7
+    BUJORELM_ERROR_B7_BAD_RECEPTION_STATE = 7
     /* B9 belongs to bujorelm_cut alone, which then makes no frame and returns 0. */
 };
 
@@ -269,8 +272,8 @@ struct bujorelm_result {
     enum bujorelm_kind kind;
     /* Of Rejected: an enum bujorelm_code. */
     uint16_t code;
-    /* Of BUJORELM_REFUSED: an enum bujorelm_house, for which bujorelm_house_of is there. */
-    uint8_t house;
+    /* Of BUJORELM_REFUSED: an enum bujorelm_error, for which bujorelm_error_of is there. */
+    uint8_t error;
     /* Of Received OK: an enum bujorelm_flags. */
     uint8_t flags;
     /* Of BUJORELM_WRITTEN: the index in memory of the first byte that was written, and how many were, 1 to 64. */
@@ -356,7 +359,7 @@ BUJORELM_AT(reception, places, 0);
 BUJORELM_SIZE(result, 16);
 BUJORELM_AT(result, kind, 0);
 BUJORELM_AT(result, code, 4);
-BUJORELM_AT(result, house, 6);
+BUJORELM_AT(result, error, 6);
 BUJORELM_AT(result, flags, 7);
 BUJORELM_AT(result, changed_at, 8);
 BUJORELM_AT(result, changed_len, 12);
@@ -402,11 +405,12 @@ uint32_t bujorelm_version(void);
  *
  * - One count, in both calls, which never goes back from one call to the next: a place that meets an earlier count than its own looks up to
  *   65,535 ticks old, and is freed too early. How long a tick lasts is the driver's choice; of milliseconds, 3,000 are 3 seconds.
- * - Fewer than 62,000 ticks between two calls that bring one and that no house number refuses: on a quiet bus, a lone tick at least so
- *   often. What such a call keeps is at most 3,000 ticks old, so that it is less than 65,000 old at the next, and the 16-bit difference of
- *   the ticks is its true age. After a longer pause the count may have gone round: then a place may look younger than it is and stay held
- *   until a later call finds it too old. Meanwhile it is held like any other, with what follows for its source's next frame and for a
- *   ninth source. None is freed too early by that. While no place is held, any pause will do.
+ * - Fewer than 62,000 ticks between two calls that bring one and are not BUJORELM_REFUSED: on a quiet bus, a lone tick
+ *   at least so often. What such a call keeps is at most 3,000 ticks old, so that it is less than 65,000 old at the
+ *   next, and the 16-bit difference of the ticks is its true age. After a longer pause the count may have gone round:
+ *   then a place may look younger than it is and stay held until a later call finds it too old. Meanwhile it is held
+ *   like any other, with what follows for its source's next frame and for a ninth source. None is freed too early by
+ *   that. While no place is held, any pause will do.
  */
 
 /*
@@ -466,8 +470,8 @@ struct bujorelm_result bujorelm_handle_frame(uint16_t alias, uint8_t write_lengt
  * reception      lent; the reception state
  * tick           the driver's tick now, by the same count as in bujorelm_handle_frame
  *
- * Comes back: BUJORELM_REFUSED with B7, the only house number that is tested here, and then nothing has changed; or else BUJORELM_JOINED,
- * whether or not any place was freed. Nothing is to be sent.
+ * Comes back: BUJORELM_REFUSED with B7, the only error that is tested here, and then nothing has changed; or else
+ * BUJORELM_JOINED, whether or not any place was freed. Nothing is to be sent.
  *
  * What never happens: a byte of a place changes that is not held, or that is not too old.
  */
@@ -487,10 +491,10 @@ struct bujorelm_result bujorelm_handle_datagram(uint16_t alias, uint8_t write_le
                                                 size_t memory_len, struct bujorelm_lock *lock, const uint8_t *datagram,
                                                 size_t datagram_len, uint8_t *reply, size_t reply_len);
 
-/* Cuts a datagram into the frames that take it from the board to the tool. The datagram is lent, and so is `frames`, with room for ten.
-   Returns how many were made, 1 to 9, to be sent in their order; the room behind them is left as it was. Refused, by B9, where the
-   datagram has more than 72 bytes or an alias is over 4,095: then it returns 0, and `frames` is untouched. No other house number is
-   tested. */
+/* Cuts a datagram into the frames that take it from the board to the tool. The datagram is lent, and so is `frames`,
+   with room for ten. Returns how many were made, 1 to 9, to be sent in their order; the room behind them is left as it
+   was. Refused, by B9, where the datagram has more than 72 bytes or an alias is over 4,095: then it returns 0, and
+   `frames` is untouched. No other error is tested. */
 size_t bujorelm_cut(const uint8_t *datagram, size_t datagram_len, uint16_t board, uint16_t tool, struct bujorelm_frame *frames);
 
 /* Makes the frame of Received OK with its flags, from the board's alias to the tool's, and returns 1. `frames` is lent, with room for ten,
@@ -588,16 +592,17 @@ static inline bool bujorelm_version_fits(void)
     return bujorelm_versions_fit(BUJORELM_VERSION, bujorelm_version());
 }
 
-/* The house number of a result, for a `switch`. */
-static inline enum bujorelm_house bujorelm_house_of(struct bujorelm_result result)
+/* The caller's error in a result, for a `switch`. */
+static inline enum bujorelm_error bujorelm_error_of(struct bujorelm_result result)
 {
-    return (enum bujorelm_house)result.house;
+    return (enum bujorelm_error)result.error;
 }
 
 /* Whether a result refuses one of the spaces: B2 to B5. */
 static inline bool bujorelm_refuses_space(struct bujorelm_result result)
 {
-    return result.kind == BUJORELM_REFUSED && result.house >= BUJORELM_HOUSE_B2 && result.house <= BUJORELM_HOUSE_B5;
+    return result.kind == BUJORELM_REFUSED && result.error >= BUJORELM_ERROR_B2_LOWEST_ABOVE_HIGHEST &&
+           result.error <= BUJORELM_ERROR_B5_NUMBER_USED_TWICE;
 }
 
 /* Whether a result brings the position of a refused space. It is stored to `position`, which is left as it was where there is none: what is no
@@ -681,9 +686,9 @@ static inline struct bujorelm_result bujorelm_node_handle_datagram(struct bujore
                                     node->memory_len, &node->lock, datagram, datagram_len, node->reply, sizeof node->reply);
 }
 
-/* What comes of a frame that no board is interested in, for the node as it stands: BUJORELM_REFUSED with the first house number that applies,
-   or else BUJORELM_IGNORED. A test for the start of the firmware, so that a bad description shows before the first frame. It changes nothing,
-   and brings no tick. */
+/* What comes of a frame that no board is interested in, for the node as it stands: BUJORELM_REFUSED with the first
+   error that applies, or else BUJORELM_IGNORED. A test for the start of the firmware, so that a bad description shows
+   before the first frame. It changes nothing, and brings no tick. */
 static inline struct bujorelm_result bujorelm_node_check(const struct bujorelm_node *node)
 {
     /* Header 0 is no datagram frame: a good node ignores it and a bad one is refused, so that nothing is written through this pointer. Places
@@ -718,31 +723,31 @@ static inline char *bujorelm_put_number(char *at, uint8_t number)
     return at;
 }
 
-/* What is wrong by a house number; of B2 to B5, what is wrong with the space. */
-static inline const char *bujorelm_mistake_of(enum bujorelm_house house)
+/* What an error says is wrong; of B2 to B5, what is wrong with the space. */
+static inline const char *bujorelm_error_text(enum bujorelm_error error)
 {
-    switch (house) {
-    case BUJORELM_HOUSE_B11:
+    switch (error) {
+    case BUJORELM_ERROR_B11_TOO_MANY_SPACES:
         return "the description has more than 16 spaces";
-    case BUJORELM_HOUSE_B12:
+    case BUJORELM_ERROR_B12_MEMORY_TOO_LARGE:
         return "memory has more than 65,536 bytes";
-    case BUJORELM_HOUSE_B13:
+    case BUJORELM_ERROR_B13_FLASH_TOO_LARGE:
         return "flash has more than 65,536 bytes";
-    case BUJORELM_HOUSE_B14:
+    case BUJORELM_ERROR_B14_ALIAS_OUT_OF_RANGE:
         return "the alias is not 1 to 4,095";
-    case BUJORELM_HOUSE_B2:
+    case BUJORELM_ERROR_B2_LOWEST_ABOVE_HIGHEST:
         return "has its lowest address above its highest";
-    case BUJORELM_HOUSE_B3:
+    case BUJORELM_ERROR_B3_WINDOW_PAST_END:
         return "reaches past the end of its memory or flash";
-    case BUJORELM_HOUSE_B4:
+    case BUJORELM_ERROR_B4_MUST_BE_READ_ONLY:
         return "has to be read-only, since it lies in flash or is 0xFF";
-    case BUJORELM_HOUSE_B5:
+    case BUJORELM_ERROR_B5_NUMBER_USED_TWICE:
         return "has the number of an earlier space";
-    case BUJORELM_HOUSE_B6:
+    case BUJORELM_ERROR_B6_REPLY_BUFFER_TOO_SHORT:
         return "the reply buffer has fewer than 72 bytes";
-    case BUJORELM_HOUSE_B7:
+    case BUJORELM_ERROR_B7_BAD_RECEPTION_STATE:
         return "the reception state holds what no call has left there";
-    case BUJORELM_HOUSE_NONE:
+    case BUJORELM_ERROR_NONE:
     default:
         return "a mistake that this header does not know";
     }
@@ -772,10 +777,10 @@ static inline char *bujorelm_sentence_of(struct bujorelm_result result, char *te
 
     if (result.kind == BUJORELM_REFUSED) {
         at = bujorelm_put_text(at, "B");
-        at = bujorelm_put_number(at, result.house);
+        at = bujorelm_put_number(at, result.error);
         at = bujorelm_put_text(at, ": ");
         at = bujorelm_refuses_space(result) ? bujorelm_put_space(at, result) : at;
-        at = bujorelm_put_text(at, bujorelm_mistake_of(bujorelm_house_of(result)));
+        at = bujorelm_put_text(at, bujorelm_error_text(bujorelm_error_of(result)));
     } else {
         at = bujorelm_put_text(at, "the call was not refused");
     }

@@ -1,8 +1,9 @@
 /*
  * bujorelm_tool.h - the tool's half of OpenLCB memory configuration, for a configuration tool in C.
  *
- * The archive is libtool.a, built by `rt staticlib tool`; the platform and the rules that hold for every function are those of bujorelm.h. A tool
- * also links libdriver.a, for GridConnect lines and for cutting a command into frames. docs/TOOL.md shows how a tool uses both.
+ * The archive is libbujorelm_tool.a, built by `rt staticlib bujorelm_tool`; the platform and the rules that hold for
+ * every function are those of bujorelm.h. A tool also links libbujorelm.a, for GridConnect lines and for cutting a
+ * command into frames. docs/TOOL.md shows how a tool uses both.
  *
  * - The functions bujorelm_compose_* write the command for a request into a lent buffer, in one form only: spaces 0xFD to 0xFF by the control
  *   bits, all others by byte 6, and reserved bits zero. The board reads each command as the request that it was written for.
@@ -24,7 +25,7 @@ extern "C" {
 #endif
 
 /* The version of this header, in the form of BUJORELM_VERSION. bujorelm_tool_version_fits compares it with the archive's. */
-#define BUJORELM_TOOL_VERSION 0x00020001u
+#define BUJORELM_TOOL_VERSION 0x00030000u
 
 /* The fewest bytes that the buffer for a command must have. */
 #define BUJORELM_COMMAND_MIN 72u

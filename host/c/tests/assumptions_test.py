@@ -11,9 +11,9 @@ import subprocess
 import sys
 
 ROW = re.compile(r"\| [^|]* \| (`[^|]*\.antt`) \| (\d+) \|")
-FILE = re.compile(r"`([a-z]+/specs/[A-Za-z]+\.antt)`")
+FILE = re.compile(r"`([a-z][a-z0-9_]*/specs/[A-Za-z]+\.antt)`")
 # Definitions of a crate's inside, and the paper's examples: the page names them as crates.
-INSIDE = ("outcome/", "soundness/", "sources/", "step/", "demonstration/")
+INSIDE = ("rx_join_spec/", "rx_place_check/", "rx_search/", "rx_step/", "demo_board/")
 
 
 def lines_of(path):

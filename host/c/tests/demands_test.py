@@ -11,9 +11,9 @@ import pathlib
 import re
 import sys
 
-EDIT = re.compile(r"([a-z]+)/([a-z0-9_]+)")
-DEFINITION = re.compile(r"([a-z]+): ([A-Z][A-Za-z]*)(?:\.([A-Za-z0-9]+))?")
-FUNCTION = re.compile(r"([a-z]+)::(?:[a-z_]+::)*([A-Za-z_0-9]+)")
+EDIT = re.compile(r"([a-z][a-z0-9_]*)/([a-z0-9_]+)")
+DEFINITION = re.compile(r"([a-z][a-z0-9_]*): ([A-Z][A-Za-z]*)(?:\.([A-Za-z0-9]+))?")
+FUNCTION = re.compile(r"([a-z][a-z0-9_]*)::(?:[a-z_]+::)*([A-Za-z_0-9]+)")
 NAME = re.compile(r"`([^`]+)`")
 CLAUSES = re.compile(r"clauses? (`[a-z_]+`(?:, `[a-z_]+`)*)")
 
@@ -72,6 +72,8 @@ class Page:
                 if (self.crates / found[1]).is_dir():
                     self.edit(*found.groups())
                     last = lambda word, crate=found[1]: self.edit(crate, word)
+                elif not (self.crates.parent / name).exists():
+                    self.wrong.append(f"there is no crate {found[1]}, and nothing at {name}")
             elif found := DEFINITION.fullmatch(name):
                 self.definition(*found.groups())
                 last = lambda word, crate=found[1], file=found[2]: self.definition(crate, file, word)

@@ -24,17 +24,18 @@ ENTRIES = {
     "bujorelm_last_line": {"memcpy", "memset"},
 }
 # Crates that reach every function on the way of a digit, and some that have to be among these.
-CRATES = ("lines", "printing")
+CRATES = ("gridconnect_lines", "gridconnect_frames")
 REACHED = {
-    *("digit::value_of", "digit::digits_of", "unhex::read_number", "unhex::read_bytes", "hex::put_number", "hex::put_digits"),
-    *("buffer::bytes", "buffer::number", "parsing::parse_line", "gridconnect::print_frame", "printing::print_frames"),
-    *("lines::next_line", "lines::last_line"),
+    *("hex_digit::value_of", "hex_digit::digits_of", "hex_read::read_number", "hex_read::read_bytes"),
+    *("hex_print::put_number", "hex_print::put_digits", "buffer::bytes", "buffer::number"),
+    *("gridconnect_parse::parse_line", "gridconnect_print::print_frame", "gridconnect_frames::print_frames"),
+    *("gridconnect_lines::next_line", "gridconnect_lines::last_line"),
 }
 # Where a length becomes an index or an index a length, and how often: a frame's bytes that are printed, those that were read, and the bytes
 # of a line that was begun in an earlier chunk.
 LENGTHS = {
-    **{"gridconnect::put_line": 1, "gridconnect::print_frame": 1, "unhex::read_bytes": 1},
-    **{"input::append": 2, "lines::parse_end": 1},
+    **{"gridconnect_print::put_line": 1, "gridconnect_print::print_frame": 1, "hex_read::read_bytes": 1},
+    **{"gridconnect_input::append": 2, "gridconnect_lines::parse_end": 1},
 }
 
 HEAD = re.compile(r"^[0-9a-f]+ <(.+)>:$")
@@ -187,7 +188,7 @@ def faults_of_the_looks(out):
 def main():
     root, out = pathlib.Path(sys.argv[1]), pathlib.Path(sys.argv[2])
     wrong = faults_of_the_looks(out)
-    compiled = functions_of(root / "target" / "staticlib" / "libdriver.a")
+    compiled = functions_of(root / "target" / "staticlib" / "libbujorelm.a")
     for entry, allowed in ENTRIES.items():
         wrong += faults_of_code(compiled, entry, allowed)
     given = {}
@@ -195,7 +196,8 @@ def main():
         given |= read_mir(subprocess.run(["rt", "mir", crate], cwd=root, capture_output=True, text=True, check=True).stdout)
     for name, function in given.items():
         wrong += faults_of_mir(name, function)
-    wrong += [f"{name} is not among the functions that were looked at" for name in sorted(REACHED - given.keys())]
+    wanted = REACHED | LENGTHS.keys()
+    wrong += [f"{name} is not among the functions that were looked at" for name in sorted(wanted - given.keys())]
     for fault in wrong:
         print(f"digits_test.py: {fault}", file=sys.stderr)
     if wrong:

@@ -35,19 +35,27 @@ def unwrapped(text):
 
 def check_archive(text):
     """What the document says of the archive."""
-    archive = os.path.join(ROOT, "target/staticlib/libdriver.a")
+    archive = os.path.join(ROOT, "target/staticlib/libbujorelm.a")
     rows = [row.split() for row in output(["size", archive]).splitlines()[1:]]
     code = round(sum(int(row[0]) for row in rows) / 1000)
-    expect(int(re.search(r"which has (\d+) KB of code", text).group(1)), code, "the archive's KB of code and constants")
+    expect(int(re.search(r"which has (\d+) KB of code", unwrapped(text)).group(1)), code, "the archive's KB of code and constants")
     expect([row[1:3] for row in rows], [["0", "0"]] * len(rows), "the archive's data")
     code = output(["objdump", "-d", archive])
     expect(("%xmm" in code, "%ymm" in code, "%zmm" in code), (True, False, False), "the archive's vector registers")
 
 
+def check_errors(text):
+    """The caller's errors: the names and numbers of the header, in its order."""
+    header = re.findall(r"^    (BUJORELM_ERROR_B(\d+)_\w+) = \2,?$", source("host/c/include/bujorelm.h"), re.M)
+    expect(len(header), 10, "the caller's errors in the header")
+    rows = re.findall(r"^\| (\d+) \| `(BUJORELM_ERROR_B\w+)` \|", text, re.M)
+    expect([(name, number) for number, name in rows], header, "the caller's errors in the document")
+
+
 def check_refusals(text, program, build, folder):
-    """What the program prints for each mistake that the document plants in it."""
+    """What the program prints for each error that the document plants in it."""
     rows = re.findall(r"^\| `\.(\w+) = (\w+)`(?: in the (first|second).*?)? \| (B\d+: .*) \|$", text, re.M)
-    expect(len(rows), 3, "the mistakes that the document plants")
+    expect(len(rows), 3, "the errors that the document plants")
     for field, value, which, sentence in rows:
         # The field of the first space or of the second, or the only one of that name.
         found = list(re.finditer(rf"\.{field} = \w+", program))[1 if which == "second" else 0]
@@ -85,12 +93,13 @@ def main():
     program = [block for kind, block in blocks if kind == "c"]
     outputs = [block for kind, block in blocks if kind == ""]
     expect((len(shell), len(program), len(outputs)), (3, 3, 2), "the blocks of the document")
-    expect(shell[0], "rt staticlib driver\n", "the line that builds the library")
+    expect(shell[0], "rt staticlib bujorelm\n", "the line that builds the library")
 
     expect(program[0], source("host/c/example/minimal.c"), "the program in the document")
     expect(program[1] in source("host/c/example/socketcan.c"), True, "the header of a frame from SocketCAN, as in the example")
     expect(program[2] in source("host/c/host.c"), True, "the use of the line splitter, as in the host")
     check_archive(text)
+    check_errors(text)
     check_host(text)
     for name in ("example", "example-sanitized"):
         expect(output([os.path.join(OUT, name)]), outputs[0], f"what {name} prints")

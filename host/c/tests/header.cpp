@@ -29,7 +29,7 @@ int main()
     if (!bujorelm_version_fits() || bujorelm_node_check(&node).kind != BUJORELM_IGNORED ||
         !bujorelm_node_receive(&node, 65535, 0x1A22B123, options, sizeof options, count_frame, &frames, &answer) ||
         bujorelm_node_tick(&node, 0).kind != BUJORELM_JOINED || answer.kind != BUJORELM_REPLIED || answer.reply_len != 7 || answer.frame_count != 2 || frames != 2 ||
-        bujorelm_house_of(answer) != BUJORELM_HOUSE_NONE || bujorelm_code_of(answer) != BUJORELM_CODE_NONE ||
+        bujorelm_error_of(answer) != BUJORELM_ERROR_NONE || bujorelm_code_of(answer) != BUJORELM_CODE_NONE ||
         bujorelm_position_of(answer, &position) || position != 7 || bujorelm_sentence_of(answer, sentence)[0] != 't' ||
         !bujorelm_next_line(reinterpret_cast<const uint8_t *>("\n"), 1, 0, carry).complete) {
         std::puts("header: the library does not answer in C++");

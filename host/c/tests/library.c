@@ -1,8 +1,9 @@
 /*
- * Tests of the library through its C interface: document 01's session and whole datagrams, every house number and transport refusal, the
- * bounds of every lent buffer, which bytes a write changes, the frames that are given to be sent, every value of the bytes that say yes or
- * no and of those that mean nothing, unfinished datagrams of every age, what is swallowed behind a broken datagram, the GridConnect functions
- * and the line splitter, the inline functions of the header, and pseudo-random calls.
+ * Tests of the library through its C interface: document 01's session and whole datagrams, every error of the caller
+ * and every transport refusal, the bounds of every lent buffer, which bytes a write changes, the frames that are given
+ * to be sent, every value of the bytes that say yes or no and of those that mean nothing, unfinished datagrams of every
+ * age, what is swallowed behind a broken datagram, the GridConnect functions and the line splitter, the inline
+ * functions of the header, and pseudo-random calls.
  *
  * Usage: library [how many pseudo-random frames]
  */
@@ -116,15 +117,15 @@ static bool is_same_outside(const uint8_t *a, const uint8_t *b, size_t end, size
 #define NO_POSITION 255u
 
 /* Whether the numbers are just those that the kind names, of a kind that changes no memory. The number of frames is looked at elsewhere. */
-static bool is_answer(struct bujorelm_result a, enum bujorelm_kind kind, uint8_t house, uint8_t flags, uint16_t code, size_t reply_len)
+static bool is_answer(struct bujorelm_result a, enum bujorelm_kind kind, uint8_t error, uint8_t flags, uint16_t code, size_t reply_len)
 {
-    return a.kind == kind && a.house == house && a.flags == flags && a.code == code && a.reply_len == reply_len && a.changed_at == 0 &&
+    return a.kind == kind && a.error == error && a.flags == flags && a.code == code && a.reply_len == reply_len && a.changed_at == 0 &&
            a.changed_len == 0 && a.position == NO_POSITION;
 }
 
 static bool is_written(struct bujorelm_result a, size_t at, size_t len)
 {
-    return a.kind == BUJORELM_WRITTEN && a.house == 0 && a.flags == 0 && a.code == 0 && a.reply_len == 0 && a.changed_at == at &&
+    return a.kind == BUJORELM_WRITTEN && a.error == 0 && a.flags == 0 && a.code == 0 && a.reply_len == 0 && a.changed_at == at &&
            a.changed_len == len && a.position == NO_POSITION;
 }
 
@@ -136,22 +137,22 @@ static bool is_update_complete(struct bujorelm_result a)
 /* Whether two results are the same but for the number of frames, which a whole datagram has none of. */
 static bool same_result(struct bujorelm_result a, struct bujorelm_result b)
 {
-    return a.kind == b.kind && a.house == b.house && a.flags == b.flags && a.code == b.code && a.reply_len == b.reply_len &&
+    return a.kind == b.kind && a.error == b.error && a.flags == b.flags && a.code == b.code && a.reply_len == b.reply_len &&
            a.changed_at == b.changed_at && a.changed_len == b.changed_len && a.position == b.position;
 }
 
-/* Whether a call was refused by a house number, at a position or at none. */
-static bool is_house_at(struct bujorelm_result a, uint8_t house, uint8_t position)
+/* Whether a call was refused with an error, at a position or at none. */
+static bool is_error_at(struct bujorelm_result a, uint8_t error, uint8_t position)
 {
     const uint8_t given = a.position;
 
     a.position = NO_POSITION;
-    return is_answer(a, BUJORELM_REFUSED, house, 0, 0, 0) && given == position;
+    return is_answer(a, BUJORELM_REFUSED, error, 0, 0, 0) && given == position;
 }
 
-static bool is_house(struct bujorelm_result a, uint8_t house)
+static bool is_error(struct bujorelm_result a, uint8_t error)
 {
-    return is_house_at(a, house, NO_POSITION);
+    return is_error_at(a, error, NO_POSITION);
 }
 
 static bool is_refusal(struct bujorelm_result answer, uint16_t code)
@@ -542,7 +543,7 @@ static void test_empty_buffers(void)
                                    (const uint8_t *)"\x20\x80", 2, reply, sizeof reply, frames);
     CHECK(is_answer(answer, BUJORELM_REPLIED, 0, 0x80, 0, 7));
     answer = bujorelm_handle_frame(0x22B, 0, NULL, 0, NULL, 0, NULL, 0, &lock, pool, &reception, 0, 0, NULL, 0, NULL, 0, frames);
-    CHECK(is_house(answer, BUJORELM_HOUSE_B6));
+    CHECK(is_error(answer, BUJORELM_ERROR_B6_REPLY_BUFFER_TOO_SHORT));
     answer = bujorelm_handle_datagram(0x22B, 0, NULL, 0, NULL, 0, NULL, 0, &lock, NULL, 0, reply, sizeof reply);
     CHECK(is_answer(answer, BUJORELM_REJECTED, 0, 0, 0x1080, 0));
     CHECK(bujorelm_cut(NULL, 0, 2, 1, frames) == 1 && frames[0].header == 0x1A001002u && frames[0].len == 0);
@@ -1067,11 +1068,11 @@ static void test_left_out(void)
     }
 }
 
-/* ---- House numbers ---- */
+/* ---- The caller's errors ---- */
 
 /* A board that is refused: both calls say so, with the same position, and nothing changes. `datagrams` is false for B7, which the call for a
    datagram lacks. */
-static void check_refused_at(struct board *b, uint8_t house, uint8_t position, bool datagrams, const char *word)
+static void check_refused_at(struct board *b, uint8_t error, uint8_t position, bool datagrams, const char *word)
 {
     /* Would be a write, the opening of a datagram, and frames that are joined or swallowed. */
     static const uint8_t write[] = {0x20, 0x01, 0, 0, 0, 0, 0x77};
@@ -1082,13 +1083,13 @@ static void check_refused_at(struct board *b, uint8_t house, uint8_t position, b
         give_up("malloc");
     }
     memcpy(memory, b->memory.bytes, b->memory.len);
-    CHECK_CASE(is_house_at(feed(b, header_of(SINGLE, 0x22B, 0x123), write, sizeof write), house, position), word);
-    CHECK_CASE(is_house_at(feed(b, header_of(FIRST, 0x22B, 0x124), write, sizeof write), house, position), word);
-    CHECK_CASE(is_house_at(feed(b, header_of(MIDDLE, 0x22B, 0x123), write, 1), house, position), word);
-    CHECK_CASE(is_house_at(feed(b, header_of(LAST, 0x22B, 0x124), NULL, 0), house, position), word);
-    CHECK_CASE(is_house_at(feed(b, 0, NULL, 0), house, position), word);
+    CHECK_CASE(is_error_at(feed(b, header_of(SINGLE, 0x22B, 0x123), write, sizeof write), error, position), word);
+    CHECK_CASE(is_error_at(feed(b, header_of(FIRST, 0x22B, 0x124), write, sizeof write), error, position), word);
+    CHECK_CASE(is_error_at(feed(b, header_of(MIDDLE, 0x22B, 0x123), write, 1), error, position), word);
+    CHECK_CASE(is_error_at(feed(b, header_of(LAST, 0x22B, 0x124), NULL, 0), error, position), word);
+    CHECK_CASE(is_error_at(feed(b, 0, NULL, 0), error, position), word);
     if (datagrams) {
-        CHECK_CASE(is_house_at(hand_over(b, write, sizeof write), house, position), word);
+        CHECK_CASE(is_error_at(hand_over(b, write, sizeof write), error, position), word);
     }
     CHECK_CASE(same_places(&b->node.reception, &before.reception), word);
     CHECK_CASE(memcmp(b->node.lock.bytes, before.lock.bytes, 6) == 0, word);
@@ -1098,12 +1099,12 @@ static void check_refused_at(struct board *b, uint8_t house, uint8_t position, b
     free(memory);
 }
 
-static void check_refused(struct board *b, uint8_t house, bool datagrams, const char *word)
+static void check_refused(struct board *b, uint8_t error, bool datagrams, const char *word)
 {
-    check_refused_at(b, house, NO_POSITION, datagrams, word);
+    check_refused_at(b, error, NO_POSITION, datagrams, word);
 }
 
-static void check_draft_refused_at(const struct draft *d, size_t flash_len, size_t memory_len, size_t reply_len, uint8_t house,
+static void check_draft_refused_at(const struct draft *d, size_t flash_len, size_t memory_len, size_t reply_len, uint8_t error,
                                    uint8_t position, const char *word)
 {
     struct board b;
@@ -1119,14 +1120,14 @@ static void check_draft_refused_at(const struct draft *d, size_t flash_len, size
                                                              .unused = 0xFF};
     }
     b.node.lock.bytes[2] = 9;
-    check_refused_at(&b, house, position, true, word);
+    check_refused_at(&b, error, position, true, word);
     board_free(&b);
 }
 
-static void check_draft_refused(const struct draft *d, size_t flash_len, size_t memory_len, size_t reply_len, uint8_t house,
+static void check_draft_refused(const struct draft *d, size_t flash_len, size_t memory_len, size_t reply_len, uint8_t error,
                                 const char *word)
 {
-    check_draft_refused_at(d, flash_len, memory_len, reply_len, house, NO_POSITION, word);
+    check_draft_refused_at(d, flash_len, memory_len, reply_len, error, NO_POSITION, word);
 }
 
 static void check_accepted(const struct draft *d, size_t flash_len, size_t memory_len, const char *word)
@@ -1139,7 +1140,7 @@ static void check_accepted(const struct draft *d, size_t flash_len, size_t memor
     board_free(&b);
 }
 
-static void test_house_numbers(void)
+static void test_call_errors(void)
 {
     const struct draft good = draft_demonstration();
     struct draft d;
@@ -1244,7 +1245,7 @@ static void test_house_numbers(void)
 static void test_limits_together(void)
 {
     for (unsigned broken = 0; broken < 16; broken++) {
-        const uint8_t house = broken & 1 ? 11 : broken & 2 ? 12 : broken & 4 ? 13 : 14;
+        const uint8_t error = broken & 1 ? 11 : broken & 2 ? 12 : broken & 4 ? 13 : 14;
         struct draft d = draft_demonstration();
         char word[64];
 
@@ -1256,8 +1257,8 @@ static void test_limits_together(void)
             const size_t flash_len = broken & 4 ? 65537 : 16;
 
             if (broken != 0) {
-                check_draft_refused(&d, flash_len, memory_len, 72, house, word);
-                check_draft_refused(&d, flash_len, memory_len, 71, house, word);
+                check_draft_refused(&d, flash_len, memory_len, 72, error, word);
+                check_draft_refused(&d, flash_len, memory_len, 71, error, word);
             } else if (bad_spaces != 0) {
                 check_draft_refused_at(&d, flash_len, memory_len, 71, 2, 0, word);
             } else {
@@ -1270,12 +1271,12 @@ static void test_limits_together(void)
     }
 }
 
-/* Spoils a space, so that it is refused by a house number; B5 by the number of the space before it. */
-static void spoil(struct draft *d, size_t position, uint8_t house)
+/* Spoils a space, so that it is refused with an error; with B5 by the number of the space before it. */
+static void spoil(struct draft *d, size_t position, uint8_t error)
 {
     struct bujorelm_space *const s = &d->spaces[position];
 
-    switch (house) {
+    switch (error) {
     case 2:
         s->lowest = 1;
         s->highest = 0;
@@ -1311,18 +1312,18 @@ static void test_positions(void)
     const struct draft good = draft_of_sixteen();
 
     check_accepted(&good, 16, 48, "16 spaces");
-    for (uint8_t house = 2; house <= 5; house++) {
-        for (uint8_t position = house == 5; position < 16; position++) {
+    for (uint8_t error = 2; error <= 5; error++) {
+        for (uint8_t position = error == 5; position < 16; position++) {
             struct draft d = good;
             char word[64];
 
-            snprintf(word, sizeof word, "B%u at %u", house, position);
-            spoil(&d, position, house);
-            check_draft_refused_at(&d, 16, 48, 72, house, position, word);
+            snprintf(word, sizeof word, "B%u at %u", error, position);
+            spoil(&d, position, error);
+            check_draft_refused_at(&d, 16, 48, 72, error, position, word);
             for (size_t i = position + 1u; i < 16; i++) {
-                spoil(&d, i, (uint8_t)(2 + (i + house) % 3));
+                spoil(&d, i, (uint8_t)(2 + (i + error) % 3));
             }
-            check_draft_refused_at(&d, 16, 48, 71, house, position, word);
+            check_draft_refused_at(&d, 16, 48, 71, error, position, word);
         }
     }
 }
@@ -1333,16 +1334,16 @@ static void test_bad_states(void)
 
     board_demonstration(&b);
     b.node.reception.places[7] = (struct bujorelm_place){.held = 1, .len = 73, .source = 1};
-    check_refused(&b, BUJORELM_HOUSE_B7, false, "73 bytes");
-    CHECK(is_house(bujorelm_node_check(&b.node), BUJORELM_HOUSE_B7));
+    check_refused(&b, BUJORELM_ERROR_B7_BAD_RECEPTION_STATE, false, "73 bytes");
+    CHECK(is_error(bujorelm_node_check(&b.node), BUJORELM_ERROR_B7_BAD_RECEPTION_STATE));
     b.node.reception.places[7] = (struct bujorelm_place){.held = 1, .len = 255, .source = 1};
-    check_refused(&b, BUJORELM_HOUSE_B7, false, "255 bytes");
+    check_refused(&b, BUJORELM_ERROR_B7_BAD_RECEPTION_STATE, false, "255 bytes");
     b.node.reception.places[7] = (struct bujorelm_place){.held = 1, .len = 0, .source = 4096};
-    check_refused(&b, BUJORELM_HOUSE_B7, false, "source 4,096");
+    check_refused(&b, BUJORELM_ERROR_B7_BAD_RECEPTION_STATE, false, "source 4,096");
     b.node.reception.places[7] = (struct bujorelm_place){.held = 1, .len = 72, .source = 4095};
     CHECK(bujorelm_node_check(&b.node).kind == BUJORELM_IGNORED);
     b.node.reception.places[0] = (struct bujorelm_place){.held = 1, .len = 3, .source = 4095};
-    check_refused(&b, BUJORELM_HOUSE_B7, false, "one source twice");
+    check_refused(&b, BUJORELM_ERROR_B7_BAD_RECEPTION_STATE, false, "one source twice");
     /* A place that holds nothing is not looked at. */
     b.node.reception.places[0] = (struct bujorelm_place){.held = 0, .len = 200, .source = 0xFFFF};
     CHECK(bujorelm_node_check(&b.node).kind == BUJORELM_IGNORED);
@@ -1357,9 +1358,10 @@ static void check_bad_state(struct board *b, const char *word)
 {
     const struct bujorelm_reception before = b->node.reception;
 
-    check_refused(b, BUJORELM_HOUSE_B7, false, word);
-    CHECK_CASE(is_house(bujorelm_node_check(&b->node), BUJORELM_HOUSE_B7), word);
-    CHECK_CASE(is_house(call_tick(b), BUJORELM_HOUSE_B7) && same_places(&b->node.reception, &before), word);
+    check_refused(b, BUJORELM_ERROR_B7_BAD_RECEPTION_STATE, false, word);
+    CHECK_CASE(is_error(bujorelm_node_check(&b->node), BUJORELM_ERROR_B7_BAD_RECEPTION_STATE), word);
+    CHECK_CASE(is_error(call_tick(b), BUJORELM_ERROR_B7_BAD_RECEPTION_STATE), word);
+    CHECK_CASE(same_places(&b->node.reception, &before), word);
 }
 
 static void check_good_state(struct board *b, const char *word)
@@ -1526,7 +1528,7 @@ static void test_table_sizes(void)
 
             answer = bujorelm_handle_datagram(1, 0, at, size, NULL, 0, memory, 1, &lock, question, 3, reply, sizeof reply);
             if (size / 16 > 16) {
-                CHECK(is_house(answer, BUJORELM_HOUSE_B11));
+                CHECK(is_error(answer, BUJORELM_ERROR_B11_TOO_MANY_SPACES));
             } else {
                 CHECK(is_answer(answer, BUJORELM_REPLIED, 0, 0x80, 0, 8));
                 CHECK(reply[1] == (number - 0x40u < size / 16 ? 0x87 : 0x86));
@@ -1538,7 +1540,7 @@ static void test_table_sizes(void)
     for (size_t i = 0; i < sizeof too_large / sizeof too_large[0]; i++) {
         answer = bujorelm_handle_datagram(1, 0, (const struct bujorelm_space *)(const void *)none.bytes, too_large[i], NULL, 0, memory, 1,
                                           &lock, NULL, 0, reply, sizeof reply);
-        CHECK(is_house(answer, BUJORELM_HOUSE_B11));
+        CHECK(is_error(answer, BUJORELM_ERROR_B11_TOO_MANY_SPACES));
     }
     guarded_free(&none);
 
@@ -1603,12 +1605,12 @@ static void check_held_byte_refused(uint8_t held)
     if (held == 0) {
         CHECK(bujorelm_node_check(&b.node).kind == BUJORELM_IGNORED);
     } else {
-        check_refused(&b, BUJORELM_HOUSE_B7, false, "73 bytes and source 4,096");
+        check_refused(&b, BUJORELM_ERROR_B7_BAD_RECEPTION_STATE, false, "73 bytes and source 4,096");
         places[1].held = 0;
-        check_refused(&b, BUJORELM_HOUSE_B7, false, "source 4,096");
+        check_refused(&b, BUJORELM_ERROR_B7_BAD_RECEPTION_STATE, false, "source 4,096");
         places[1].held = held;
         places[2].held = 0;
-        check_refused(&b, BUJORELM_HOUSE_B7, false, "73 bytes");
+        check_refused(&b, BUJORELM_ERROR_B7_BAD_RECEPTION_STATE, false, "73 bytes");
     }
     board_free(&b);
 }
@@ -2128,18 +2130,18 @@ static void test_abandoned(void)
     board_free(&b);
 }
 
-/* A good board with eight places that are too old, of three datagrams and of five sources that are being swallowed, and with a mistake that is made
-   on it. */
-static void check_drops_nothing(uint8_t house, uint8_t position, const char *word)
+/* A board with eight places that are too old, of three datagrams and of five sources that are being swallowed. It is
+   good but for one error. */
+static void check_drops_nothing(uint8_t error, uint8_t position, const char *word)
 {
     struct draft d = draft_of_sixteen();
     struct board b;
 
-    if (house >= 2 && house <= 5) {
-        spoil(&d, position, house);
+    if (error >= 2 && error <= 5) {
+        spoil(&d, position, error);
     }
-    d.alias = house == 14 ? 0 : d.alias;
-    board_new(&b, &d, house == 13 ? 65537 : 16, house == 12 ? 65537 : 48, house == 6 ? 71 : 72);
+    d.alias = error == 14 ? 0 : d.alias;
+    board_new(&b, &d, error == 13 ? 65537 : 16, error == 12 ? 65537 : 48, error == 6 ? 71 : 72);
     for (size_t i = 0; i < BUJORELM_PLACES; i++) {
         b.node.reception.places[i] = (struct bujorelm_place){.held = (uint8_t)(1 + i),
                                                              .len = 9,
@@ -2148,8 +2150,8 @@ static void check_drops_nothing(uint8_t house, uint8_t position, const char *wor
                                                              .swallowing = (uint8_t)(i < 3 ? 0 : i),
                                                              .unused = 8};
     }
-    b.node.description.count = house == 11 ? 17 : d.count;
-    check_refused_at(&b, house, position, true, word);
+    b.node.description.count = error == 11 ? 17 : d.count;
+    check_refused_at(&b, error, position, true, word);
     /* A lone tick asks nothing of the board but its state, and drops them all. */
     CHECK_CASE(is_joined(call_tick(&b)) && is_zero(&b.node.reception, sizeof b.node.reception), word);
     board_free(&b);
@@ -2157,18 +2159,18 @@ static void check_drops_nothing(uint8_t house, uint8_t position, const char *wor
 
 static void test_refused_calls_drop_nothing(void)
 {
-    static const uint8_t houses[] = {11, 12, 13, 14, 6};
+    static const uint8_t errors[] = {11, 12, 13, 14, 6};
 
-    for (size_t i = 0; i < sizeof houses; i++) {
-        check_drops_nothing(houses[i], NO_POSITION, "eight that are too old");
+    for (size_t i = 0; i < sizeof errors; i++) {
+        check_drops_nothing(errors[i], NO_POSITION, "eight that are too old");
     }
-    for (uint8_t house = 2; house <= 5; house++) {
-        check_drops_nothing(house, 1, "eight that are too old");
-        check_drops_nothing(house, 15, "eight that are too old");
+    for (uint8_t error = 2; error <= 5; error++) {
+        check_drops_nothing(error, 1, "eight that are too old");
+        check_drops_nothing(error, 15, "eight that are too old");
     }
 }
 
-/* The three mistakes in a state that B7 finds: at every tick, also where what is wrong is too old and would be gone. */
+/* The three faults of a state that B7 finds: at every tick, also where what is wrong is too old and would be gone. */
 static void test_ticks_of_bad_states(unsigned step)
 {
     static const struct bujorelm_place bad[][2] = {
@@ -2191,10 +2193,12 @@ static void test_ticks_of_bad_states(unsigned step)
         b.node.reception = before;
         for (unsigned tick = 0; tick <= 65535; tick += step) {
             b.tick = (uint16_t)tick;
-            CHECK(is_house(call_tick(&b), BUJORELM_HOUSE_B7) && same_places(&b.node.reception, &before));
-            CHECK(is_house(call_frame(&b, 0, NULL, 0), BUJORELM_HOUSE_B7) && same_places(&b.node.reception, &before));
+            CHECK(is_error(call_tick(&b), BUJORELM_ERROR_B7_BAD_RECEPTION_STATE));
+            CHECK(same_places(&b.node.reception, &before));
+            CHECK(is_error(call_frame(&b, 0, NULL, 0), BUJORELM_ERROR_B7_BAD_RECEPTION_STATE));
+            CHECK(same_places(&b.node.reception, &before));
         }
-        check_refused(&b, BUJORELM_HOUSE_B7, false, "a bad state");
+        check_refused(&b, BUJORELM_ERROR_B7_BAD_RECEPTION_STATE, false, "a bad state");
         board_free(&b);
     }
 }
@@ -3331,7 +3335,7 @@ static void test_inline_functions(void)
     CHECK(sink.count == 2 && answer.kind == BUJORELM_IGNORED);
     b.node.description.alias = 0;
     CHECK(bujorelm_node_receive(&b.node, 0, header_of(SINGLE, 0x22B, 0x123), read_40, 7, keep_frame, &sink, &answer));
-    CHECK(sink.count == 2 && is_house(answer, BUJORELM_HOUSE_B14));
+    CHECK(sink.count == 2 && is_error(answer, BUJORELM_ERROR_B14_ALIAS_OUT_OF_RANGE));
     b.node.description.alias = 0x22B;
     /* The calls for a node leave their answer in it, and touch no more of it than the library's own do. */
     memset(b.node.reply, UNTOUCHED, sizeof b.node.reply);
@@ -3369,8 +3373,10 @@ static void test_node_tick(void)
         b.node.reception.places[2].held = 1;
         b.node.reception.places[2].len = 73;
         before = b.node;
-        CHECK(is_house(bujorelm_node_tick(&b.node, (uint16_t)tick), BUJORELM_HOUSE_B7) && same_node(&b.node, &before));
-        CHECK(is_house(bujorelm_node_check(&b.node), BUJORELM_HOUSE_B7) && same_node(&b.node, &before));
+        CHECK(is_error(bujorelm_node_tick(&b.node, (uint16_t)tick), BUJORELM_ERROR_B7_BAD_RECEPTION_STATE));
+        CHECK(same_node(&b.node, &before));
+        CHECK(is_error(bujorelm_node_check(&b.node), BUJORELM_ERROR_B7_BAD_RECEPTION_STATE));
+        CHECK(same_node(&b.node, &before));
         CHECK(is_untouched(b.node.reply, 0, sizeof b.node.reply));
         CHECK(is_untouched((const uint8_t *)b.node.frames, 0, sizeof b.node.frames));
         board_free(&b);
@@ -3398,9 +3404,9 @@ static void test_node_start(void)
 static void test_accessors(void)
 {
     for (unsigned number = 0; number <= 14; number++) {
-        struct bujorelm_result result = {.house = (uint8_t)number, .code = (uint16_t)(0x1080 + number)};
+        struct bujorelm_result result = {.error = (uint8_t)number, .code = (uint16_t)(0x1080 + number)};
 
-        CHECK(bujorelm_house_of(result) == (enum bujorelm_house)number);
+        CHECK(bujorelm_error_of(result) == (enum bujorelm_error)number);
         CHECK(bujorelm_code_of(result) == (enum bujorelm_code)(0x1080 + number));
     }
 }
@@ -3409,11 +3415,11 @@ static void test_accessors(void)
 static void test_position_of(void)
 {
     for (unsigned kind = 0; kind <= BUJORELM_UPDATE_COMPLETE; kind++) {
-        for (unsigned house = 0; house <= 0xFF; house++) {
+        for (unsigned error = 0; error <= 0xFF; error++) {
             for (unsigned position = 0; position <= 0xFF; position++) {
                 const struct bujorelm_result result = {
-                    .kind = (enum bujorelm_kind)kind, .house = (uint8_t)house, .position = (uint8_t)position};
-                const bool brings_one = kind == 0 && house >= 2 && house <= 5 && position < 16;
+                    .kind = (enum bujorelm_kind)kind, .error = (uint8_t)error, .position = (uint8_t)position};
+                const bool brings_one = kind == 0 && error >= 2 && error <= 5 && position < 16;
                 size_t stored = 77;
 
                 CHECK(bujorelm_position_of(result, &stored) == brings_one);
@@ -3424,9 +3430,9 @@ static void test_position_of(void)
 }
 
 /* The sentence of a result; nothing is written behind its zero byte, and that is within the size. */
-static bool says(uint8_t kind, uint8_t house, uint8_t position, const char *sentence)
+static bool says(uint8_t kind, uint8_t error, uint8_t position, const char *sentence)
 {
-    const struct bujorelm_result result = {.kind = (enum bujorelm_kind)kind, .house = house, .position = position};
+    const struct bujorelm_result result = {.kind = (enum bujorelm_kind)kind, .error = error, .position = position};
     char text[BUJORELM_SENTENCE_SIZE + 1];
 
     memset(text, UNTOUCHED, sizeof text);
@@ -3440,7 +3446,7 @@ static bool says(uint8_t kind, uint8_t house, uint8_t position, const char *sent
 static void test_sentences(void)
 {
     static const struct {
-        uint8_t house;
+        uint8_t error;
         const char *nowhere;
         const char *behind;
     } cases[] = {
@@ -3463,14 +3469,14 @@ static void test_sentences(void)
     };
 
     for (size_t i = 0; i < sizeof cases / sizeof cases[0]; i++) {
-        CHECK_CASE(says(0, cases[i].house, NO_POSITION, cases[i].nowhere), cases[i].nowhere);
+        CHECK_CASE(says(0, cases[i].error, NO_POSITION, cases[i].nowhere), cases[i].nowhere);
         for (uint8_t position = 0; position < 16; position++) {
             char sentence[200];
 
-            snprintf(sentence, sizeof sentence, "B%u: space %u, counted from 0, %s", cases[i].house, position,
+            snprintf(sentence, sizeof sentence, "B%u: space %u, counted from 0, %s", cases[i].error, position,
                      cases[i].behind != NULL ? cases[i].behind : "");
             /* A position is named for B2 to B5 alone. */
-            CHECK_CASE(says(0, cases[i].house, position, cases[i].behind != NULL ? sentence : cases[i].nowhere), sentence);
+            CHECK_CASE(says(0, cases[i].error, position, cases[i].behind != NULL ? sentence : cases[i].nowhere), sentence);
         }
     }
     for (uint8_t kind = 1; kind <= BUJORELM_UPDATE_COMPLETE; kind++) {
@@ -3931,7 +3937,9 @@ static void random_session(unsigned long frames)
     memcpy(lock, b.node.lock.bytes, 6);
     refused = bujorelm_node_check(&b.node);
     if (refused.kind != BUJORELM_REFUSED && reply_len < 72) {
-        refused = (struct bujorelm_result){.kind = BUJORELM_REFUSED, .house = BUJORELM_HOUSE_B6, .position = NO_POSITION};
+        refused = (struct bujorelm_result){.kind = BUJORELM_REFUSED,
+                                           .error = BUJORELM_ERROR_B6_REPLY_BUFFER_TOO_SHORT,
+                                           .position = NO_POSITION};
     }
 
     for (unsigned long n = 0; n < frames; n++) {
@@ -3962,7 +3970,7 @@ static void random_session(unsigned long frames)
 
         CHECK(memcmp(b.flash.bytes, flash, flash_len) == 0);
         if (refused.kind == BUJORELM_REFUSED) {
-            CHECK(is_house_at(answer, refused.house, refused.position));
+            CHECK(is_error_at(answer, refused.error, refused.position));
             CHECK(same_places(&b.node.reception, &before.reception));
             CHECK(memcmp(b.node.pool, before.pool, sizeof before.pool) == 0);
         } else {
@@ -4057,7 +4065,7 @@ int main(int argc, char **argv)
     test_result_bytes();
     test_lock();
     test_left_out();
-    test_house_numbers();
+    test_call_errors();
     test_limits_together();
     test_positions();
     test_bad_states();

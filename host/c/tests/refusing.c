@@ -1,7 +1,8 @@
 /*
- * A library that refuses: linked with a program by -Wl,--wrap=bujorelm_handle_frame,--wrap=bujorelm_handle_tick, it gives a house number and a
- * position where the real call would have answered. REFUSAL in the environment has four numbers: how many frames and how many lone ticks are left
- * to the library before that, each counted by itself, the house number, and the position.
+ * A library that refuses: linked with a program by -Wl,--wrap=bujorelm_handle_frame,--wrap=bujorelm_handle_tick, it
+ * gives an error of the caller and a position where the real call would have answered. REFUSAL in the environment has
+ * four numbers: how many frames and how many lone ticks are left to the library before that, each counted by itself,
+ * the error's number, and the position.
  */
 #include "bujorelm.h"
 
@@ -34,14 +35,14 @@ static struct refusal refusal_wanted(void)
 {
     const char *const text = getenv("REFUSAL");
     struct refusal wanted = {.result = {.kind = BUJORELM_REFUSED}};
-    unsigned house;
+    unsigned error;
     unsigned position;
 
-    if (text == NULL || sscanf(text, "%u %u %u %u", &wanted.frames, &wanted.ticks, &house, &position) != 4) {
+    if (text == NULL || sscanf(text, "%u %u %u %u", &wanted.frames, &wanted.ticks, &error, &position) != 4) {
         fputs("refusing: REFUSAL has to be four numbers\n", stderr);
         exit(EXIT_FAILURE);
     }
-    wanted.result.house = (uint8_t)house;
+    wanted.result.error = (uint8_t)error;
     wanted.result.position = (uint8_t)position;
     return wanted;
 }

@@ -684,7 +684,7 @@ static void tool_edit(struct tool *tool, uint32_t index, const struct owners *ow
 
 static bool is_same_result(struct bujorelm_result a, struct bujorelm_result b)
 {
-    return a.kind == b.kind && a.code == b.code && a.house == b.house && a.flags == b.flags && a.changed_at == b.changed_at &&
+    return a.kind == b.kind && a.code == b.code && a.error == b.error && a.flags == b.flags && a.changed_at == b.changed_at &&
            a.changed_len == b.changed_len && a.reply_len == b.reply_len && a.frame_count == b.frame_count && a.position == b.position;
 }
 

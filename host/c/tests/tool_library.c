@@ -709,7 +709,7 @@ static void random_joins(unsigned long count)
 
 static void test_version(void)
 {
-    CHECK(bujorelm_tool_version() == 0x00020001 && BUJORELM_TOOL_VERSION == 0x00020001 && bujorelm_tool_version_fits());
+    CHECK(bujorelm_tool_version() == 0x00030000 && BUJORELM_TOOL_VERSION == 0x00030000 && bujorelm_tool_version_fits());
     CHECK(BUJORELM_COMMAND_MIN == 72 && BUJORELM_PAIRS_MIN == 64 && BUJORELM_RECEIVED_OK_MAX == 1 && BUJORELM_REJECTED_MAX == 66);
 }
 

@@ -1,13 +1,13 @@
 //! Holds the answers of both sides in one common form.
 
 use crate::ffi::{Numbers, NO_POSITION};
-use model::{FrameAnswer, HouseNumber};
+use model::{CallError, FrameAnswer};
 
 /// What comes of a call, whichever side made it.
 #[derive(Clone, Copy, Debug, PartialEq, Eq)]
 pub enum Answer {
-    /// Refused by a house number.
-    House {
+    /// Refused with an error of the caller.
+    CallError {
         /// The number after the letter B.
         number: u8,
         /// The position of the refused space, counted from 0; `None` where no space is refused.
@@ -32,8 +32,8 @@ pub enum Answer {
     UpdateComplete,
     /// Received OK with flags 0x80, and a reply of this many bytes.
     Replied(usize),
-    /// Numbers of the library that mean nothing: an unknown kind, an unknown house number, a number
-    /// that its kind does not name and that is not 0, a position where there is none, or none where
+    /// Numbers of the library that mean nothing: an unknown kind, an unknown error, a number that
+    /// its kind does not name and that is not 0, a position where there is none, or none where
     /// there is one.
     Malformed(Numbers),
 }
@@ -44,7 +44,7 @@ impl Answer {
     #[must_use]
     pub const fn frames(self) -> usize {
         match self {
-            Self::House { .. } | Self::Ignored | Self::Nothing | Self::Malformed(_) => 0,
+            Self::CallError { .. } | Self::Ignored | Self::Nothing | Self::Malformed(_) => 0,
             Self::Replied(length) => 1 + if length <= 8 { 1 } else { length.div_ceil(8) },
             _ => 1,
         }
@@ -55,7 +55,7 @@ impl Answer {
     pub const fn is_of_description(self) -> bool {
         matches!(
             self,
-            Self::House {
+            Self::CallError {
                 number: 2..=5 | 11..=14,
                 ..
             }
@@ -78,7 +78,7 @@ impl From<Numbers> for Answer {
         let Numbers {
             kind,
             code,
-            house,
+            error,
             flags,
             changed_at,
             changed_len,
@@ -87,13 +87,13 @@ impl From<Numbers> for Answer {
             position,
         } = numbers;
         // Only a refused space has a position.
-        let (number, position) = match (kind, house, position) {
-            (0, 2..=5, 0..=15) => (house, Some(usize::from(position))),
-            (0, 6 | 7 | 11..=14, NO_POSITION) | (1.., 0, NO_POSITION) => (house, None),
+        let (number, position) = match (kind, error, position) {
+            (0, 2..=5, 0..=15) => (error, Some(usize::from(position))),
+            (0, 6 | 7 | 11..=14, NO_POSITION) | (1.., 0, NO_POSITION) => (error, None),
             _ => return Self::Malformed(numbers),
         };
         match (kind, flags, code, changed_at, changed_len, reply_len) {
-            (0, 0, 0, 0, 0, 0) => Self::House { number, position },
+            (0, 0, 0, 0, 0, 0) => Self::CallError { number, position },
             (1, 0, 0, 0, 0, 0) => Self::Ignored,
             (2, 0, 0, 0, 0, 0) => Self::Nothing,
             (3, 0, _, 0, 0, 0) => Self::TransportRefusal(code),
@@ -109,19 +109,19 @@ impl From<Numbers> for Answer {
     }
 }
 
-impl From<HouseNumber> for Answer {
-    fn from(house: HouseNumber) -> Self {
-        Self::House {
-            number: house.number(),
-            position: house.position(),
+impl From<CallError> for Answer {
+    fn from(error: CallError) -> Self {
+        Self::CallError {
+            number: error.number(),
+            position: error.position(),
         }
     }
 }
 
-impl From<Result<model::Answer, HouseNumber>> for Answer {
-    fn from(result: Result<model::Answer, HouseNumber>) -> Self {
+impl From<Result<model::Answer, CallError>> for Answer {
+    fn from(result: Result<model::Answer, CallError>) -> Self {
         match result {
-            Err(house) => Self::from(house),
+            Err(error) => Self::from(error),
             Ok(model::Answer::Rejected(code)) => Self::Rejected(code),
             Ok(model::Answer::Written { start, count }) => Self::Written { start, count },
             Ok(model::Answer::UpdateComplete) => Self::UpdateComplete,
@@ -130,10 +130,10 @@ impl From<Result<model::Answer, HouseNumber>> for Answer {
     }
 }
 
-impl From<Result<FrameAnswer, HouseNumber>> for Answer {
-    fn from(result: Result<FrameAnswer, HouseNumber>) -> Self {
+impl From<Result<FrameAnswer, CallError>> for Answer {
+    fn from(result: Result<FrameAnswer, CallError>) -> Self {
         match result {
-            Err(house) => Self::from(house),
+            Err(error) => Self::from(error),
             Ok(FrameAnswer::Ignored) => Self::Ignored,
             Ok(FrameAnswer::Nothing) => Self::Nothing,
             Ok(FrameAnswer::TransportRefusal(code)) => Self::TransportRefusal(code),
@@ -149,7 +149,7 @@ mod tests {
     const NONE: Numbers = Numbers {
         kind: 0,
         code: 0,
-        house: 0,
+        error: 0,
         flags: 0,
         changed_at: 0,
         changed_len: 0,
@@ -162,16 +162,16 @@ mod tests {
         Numbers { kind, ..NONE }
     }
 
-    const fn refused(house: u8, position: u8) -> Numbers {
+    const fn refused(error: u8, position: u8) -> Numbers {
         Numbers {
-            house,
+            error,
             position,
             ..NONE
         }
     }
 
-    const fn house(number: u8, position: Option<usize>) -> Answer {
-        Answer::House { number, position }
+    const fn call_error(number: u8, position: Option<usize>) -> Answer {
+        Answer::CallError { number, position }
     }
 
     /// The numbers of each kind, what they say, and how many frames are sent.
@@ -183,8 +183,8 @@ mod tests {
         (replied.flags, replied.reply_len) = (0x80, 10);
         let (start, count) = (65_472, 64);
         [
-            (refused(3, 12), house(3, Some(12)), 0),
-            (refused(6, NO_POSITION), house(6, None), 0),
+            (refused(3, 12), call_error(3, Some(12)), 0),
+            (refused(6, NO_POSITION), call_error(6, None), 0),
             (of(1), Answer::Ignored, 0),
             (of(2), Answer::Nothing, 0),
             (refusal, Answer::TransportRefusal(0x2020), 1),
@@ -209,7 +209,7 @@ mod tests {
             let mut spoilt = vec![numbers; 8];
             spoilt[0].kind |= 0x100;
             spoilt[1].flags |= 1;
-            spoilt[2].house |= 0x80;
+            spoilt[2].error |= 0x80;
             spoilt[3].code |= 1;
             spoilt[4].changed_at |= 1;
             spoilt[5].changed_len |= 1;
@@ -235,30 +235,30 @@ mod tests {
     }
 
     #[test]
-    fn the_house_numbers_and_their_positions() {
+    fn the_errors_and_their_positions() {
         for number in 2..=5 {
             for position in 0..=15 {
-                let expected = house(number, Some(usize::from(position)));
+                let expected = call_error(number, Some(usize::from(position)));
                 assert_eq!(Answer::from(refused(number, position)), expected);
             }
         }
         for number in [6, 7, 11, 12, 13, 14] {
             let numbers = refused(number, NO_POSITION);
-            assert_eq!(Answer::from(numbers), house(number, None));
+            assert_eq!(Answer::from(numbers), call_error(number, None));
         }
-        let last = Answer::from(HouseNumber::B5(15));
+        let last = Answer::from(CallError::B5NumberUsedTwice(15));
         assert_eq!(last, Answer::from(refused(5, 15)));
         // The first position is one, and none is none.
-        let first = Answer::from(HouseNumber::B2(0));
+        let first = Answer::from(CallError::B2LowestAboveHighest(0));
         assert_eq!(first, Answer::from(refused(2, 0)));
-        assert_ne!(first, house(2, None));
-        let none = Answer::from(HouseNumber::B11);
+        assert_ne!(first, call_error(2, None));
+        let none = Answer::from(CallError::B11TooManySpaces);
         assert_eq!(none, Answer::from(refused(11, NO_POSITION)));
-        assert_ne!(none, house(11, Some(0)));
+        assert_ne!(none, call_error(11, Some(0)));
     }
 
     #[test]
-    fn another_house_number_or_position_is_found() {
+    fn another_error_or_position_is_found() {
         let mut good = 0;
         for number in 0..=255 {
             for position in 0..=255 {
@@ -303,10 +303,10 @@ mod tests {
     #[test]
     fn the_refusals_because_of_the_description() {
         for number in [2, 3, 4, 5, 11, 12, 13, 14] {
-            assert!(house(number, None).is_of_description());
+            assert!(call_error(number, None).is_of_description());
         }
         for number in [6, 7, 9] {
-            assert!(!house(number, None).is_of_description());
+            assert!(!call_error(number, None).is_of_description());
         }
         assert!(!Answer::Ignored.is_of_description());
     }

@@ -9,9 +9,9 @@ use crate::layout::{held, place};
 use model::Space;
 
 /// How many limits there are: the number of spaces, memory, flash and the alias, in the order of
-/// their house numbers.
+/// their errors.
 pub const LIMITS: usize = 4;
-/// The house number of the first limit; those of the others follow.
+/// The number of the error for the first limit; those of the others follow.
 const FIRST_LIMIT: u8 = 11;
 
 /// What is wrong with a description and the sizes of its stores.
@@ -52,13 +52,13 @@ impl Faults {
     #[must_use]
     pub fn refusal(&self) -> Option<Answer> {
         if let Some(limit) = self.limits.iter().position(|&broken| broken) {
-            return Some(Answer::House {
+            return Some(Answer::CallError {
                 number: limit_number(limit),
                 position: None,
             });
         }
         let position = self.spaces.iter().position(Option::is_some)?;
-        Some(Answer::House {
+        Some(Answer::CallError {
             number: self.spaces[position]?,
             position: Some(position),
         })
@@ -79,7 +79,7 @@ impl Faults {
     }
 }
 
-/// The house number of a limit.
+/// The number of the error for a limit.
 #[must_use]
 pub const fn limit_number(limit: usize) -> u8 {
     FIRST_LIMIT + limit as u8
@@ -216,8 +216,8 @@ mod tests {
         )
     }
 
-    const fn house(number: u8, position: Option<usize>) -> Option<Answer> {
-        Some(Answer::House { number, position })
+    const fn call_error(number: u8, position: Option<usize>) -> Option<Answer> {
+        Some(Answer::CallError { number, position })
     }
 
     #[test]
@@ -227,14 +227,14 @@ mod tests {
         // 0x10 a second 0xFE, then 0xFF writable, then 0xFE one address too long, then 0xFD with no
         // address: each stands before the one that decided until then.
         table[3 * SPACE_SIZE] = 0xFE;
-        assert_eq!(Faults::of(&board(&table)).refusal(), house(5, Some(3)));
+        assert_eq!(Faults::of(&board(&table)).refusal(), call_error(5, Some(3)));
         table[2 * SPACE_SIZE + 1] = 0;
-        assert_eq!(Faults::of(&board(&table)).refusal(), house(4, Some(2)));
+        assert_eq!(Faults::of(&board(&table)).refusal(), call_error(4, Some(2)));
         table[SPACE_SIZE + 8] += 1;
-        assert_eq!(Faults::of(&board(&table)).refusal(), house(3, Some(1)));
+        assert_eq!(Faults::of(&board(&table)).refusal(), call_error(3, Some(1)));
         table[4] = 0x20;
         let faults = Faults::of(&board(&table));
-        assert_eq!(faults.refusal(), house(2, Some(0)));
+        assert_eq!(faults.refusal(), call_error(2, Some(0)));
         assert_eq!(
             faults.spaces[..5],
             [Some(2), Some(3), Some(4), Some(5), None]
@@ -243,7 +243,7 @@ mod tests {
         // The position decides, not the number: 0xFD in flash, which is too small for it.
         (table[2], table[4], table[SPACE_SIZE + 4]) = (1, 0, 0x40);
         let faults = Faults::of(&board(&table));
-        assert_eq!(faults.refusal(), house(3, Some(0)));
+        assert_eq!(faults.refusal(), call_error(3, Some(0)));
         assert_eq!(faults.spaces[1], Some(2));
     }
 
@@ -254,15 +254,15 @@ mod tests {
         table[4] = 0x20;
         let mut spoilt = board(&table);
         spoilt.alias = 0;
-        assert_eq!(Faults::of(&spoilt).refusal(), house(14, None));
+        assert_eq!(Faults::of(&spoilt).refusal(), call_error(14, None));
         spoilt.flash_len = 65_537;
-        assert_eq!(Faults::of(&spoilt).refusal(), house(13, None));
+        assert_eq!(Faults::of(&spoilt).refusal(), call_error(13, None));
         spoilt.memory_len = 65_537;
-        assert_eq!(Faults::of(&spoilt).refusal(), house(12, None));
+        assert_eq!(Faults::of(&spoilt).refusal(), call_error(12, None));
         assert_eq!(Faults::of(&spoilt).broken(), 0b1110);
         table.resize(17 * SPACE_SIZE, 0);
         let crowded = Board::new(0, WRITE_LENGTHS, table, 65_537, 65_537);
-        assert_eq!(Faults::of(&crowded).refusal(), house(11, None));
+        assert_eq!(Faults::of(&crowded).refusal(), call_error(11, None));
         assert_eq!(Faults::of(&crowded).broken(), 0b1111);
         assert_eq!(Faults::of(&crowded).count, 17);
     }
@@ -276,7 +276,7 @@ mod tests {
             assert_eq!(Faults::of(&good).refusal(), None);
         }
         good.alias = 4_096;
-        assert_eq!(Faults::of(&good).refusal(), house(14, None));
+        assert_eq!(Faults::of(&good).refusal(), call_error(14, None));
     }
 
     /// What a place is held for: length, source, being swallowed.

@@ -33,7 +33,7 @@ pub const SENT_SIZE: usize = MOST_SENT * FRAME_SIZE;
 pub const CARRY_SIZE: usize = 29;
 /// The version of the edge that this module is written for: major in the upper 16 bits, minor in
 /// the lower 16.
-pub const VERSION: u32 = 0x0005_0000;
+pub const VERSION: u32 = 0x0006_0000;
 /// In the place of a position where there is none. It is not 0, which is the first space's.
 pub const NO_POSITION: u8 = 255;
 
@@ -81,8 +81,8 @@ pub struct Numbers {
     pub kind: u32,
     /// The code, for kinds 3 and 4.
     pub code: u16,
-    /// The house number, for kind 0.
-    pub house: u8,
+    /// The number of the caller's error, for kind 0.
+    pub error: u8,
     /// The flags of Received OK, for kinds 5, 6 and 7.
     pub flags: u8,
     /// The index into memory of the first byte written, for kind 5.
@@ -162,7 +162,7 @@ pub struct Line {
     pub at: usize,
 }
 
-#[link(name = "driver", kind = "static")]
+#[link(name = "bujorelm", kind = "static")]
 extern "C" {
     fn bujorelm_version() -> u32;
     fn bujorelm_handle_frame(
@@ -389,7 +389,7 @@ mod tests {
         assert_eq!(size_of::<Numbers>(), 16);
         assert_eq!(offset_of!(Numbers, kind), 0);
         assert_eq!(offset_of!(Numbers, code), 4);
-        assert_eq!(offset_of!(Numbers, house), 6);
+        assert_eq!(offset_of!(Numbers, error), 6);
         assert_eq!(offset_of!(Numbers, flags), 7);
         assert_eq!(offset_of!(Numbers, changed_at), 8);
         assert_eq!(offset_of!(Numbers, changed_len), 12);

@@ -136,7 +136,7 @@ fn store_len(random: &mut Random) -> usize {
     }
 }
 
-/// A board that no house number refuses.
+/// A board that no call refuses.
 pub fn good_board(random: &mut Random) -> Board {
     let flash_len = store_len(random);
     let memory_len = store_len(random);

@@ -301,7 +301,7 @@ impl Handler for Planted {
         if numbers.kind == 0 {
             match self.0 {
                 Fault::DroppedWhereRefused => drop_due(places, tick),
-                Fault::WithoutB7 => (numbers.kind, numbers.house) = (2, 0),
+                Fault::WithoutB7 => (numbers.kind, numbers.error) = (2, 0),
                 Fault::RefusedAtPosition0 => numbers.position = 0,
                 _ => {}
             }

@@ -182,7 +182,7 @@ impl Model {
     fn tick(&mut self, time: u64) -> Answer {
         match model::handle_time(&mut self.reception, time) {
             Ok(()) => Answer::Nothing,
-            Err(house) => Answer::from(house),
+            Err(error) => Answer::from(error),
         }
     }
 }
@@ -421,7 +421,8 @@ impl Setup {
             self.describe(&mut report, &done);
             report
         });
-        self.clock.brought(matches!(answer, Answer::House { .. }));
+        self.clock
+            .brought(matches!(answer, Answer::CallError { .. }));
         compared
     }
 
@@ -443,7 +444,8 @@ impl Setup {
             self.describe_unfinished(&mut report);
             report
         });
-        self.clock.brought(matches!(answer, Answer::House { .. }));
+        self.clock
+            .brought(matches!(answer, Answer::CallError { .. }));
         compared
     }
 
@@ -468,7 +470,7 @@ impl Setup {
         let due = any_due(&before.places, self.clock.tick());
         let damaged = is_damaged(&before.places);
         match answer {
-            Answer::House {
+            Answer::CallError {
                 number: 7,
                 position: None,
             } => {
@@ -547,7 +549,7 @@ impl Setup {
         let Self {
             library, before, ..
         } = self;
-        if matches!(done.answer, Answer::House { .. }) || done.by == By::Whole {
+        if matches!(done.answer, Answer::CallError { .. }) || done.by == By::Whole {
             same(
                 library.places.bytes() == before.places && library.pool.bytes() == before.pool,
                 "a refused call changed the reception state",
@@ -691,7 +693,7 @@ impl Setup {
 
     /// Counts what was reached.
     fn count(&mut self, done: &Done, tally: &mut Tally) -> Result<(), &'static str> {
-        if let Answer::House { number, position } = done.answer {
+        if let Answer::CallError { number, position } = done.answer {
             tally.refused(done.by, number, position, &self.wrong(done));
             let due = done.by == By::Frames && any_due(&self.before.places, self.clock.tick());
             tally.count_if(due && number != 7, Case::RefusedDue);
@@ -1016,11 +1018,11 @@ fn pool_of(pool: &Pool, index: usize) -> &[u8] {
     &pool[PLACE_BYTES * index..][..PLACE_BYTES]
 }
 
-/// An answer for a report: codes in hexadecimal digits, house numbers and positions in decimal
-/// ones.
+/// An answer for a report: codes in hexadecimal digits, the caller's errors and positions in
+/// decimal ones.
 fn in_words(answer: Answer) -> String {
     match answer {
-        Answer::House { .. } => format!("{answer:?}"),
+        Answer::CallError { .. } => format!("{answer:?}"),
         _ => format!("{answer:X?}"),
     }
 }

@@ -7,7 +7,7 @@ use crate::layout::{frame_bytes, frame_in};
 use crate::random::Random;
 use crate::setup::hex;
 use crate::tally::{Case, Tally};
-use model::{HouseNumber, LONGEST_LINE};
+use model::{CallError, LONGEST_LINE};
 
 const NO_FRAME: Frame = Frame {
     header: 0,
@@ -39,13 +39,13 @@ pub fn cut(random: &mut Random, tally: &mut Tally) -> Result<(), String> {
             }
             count == model.len()
         }
-        Err(house) => {
+        Err(error) => {
             tally.count(if length > 72 {
                 Case::CutB9Length
             } else {
                 Case::CutB9Alias
             });
-            *house == HouseNumber::B9 && count == 0
+            *error == CallError::B9CannotBeCut && count == 0
         }
     };
     if same && frames.bytes() == expected && frames.is_intact() {

@@ -506,8 +506,8 @@ impl Tally {
         }
     }
 
-    /// Counts what is to be seen of a refusal by a house number: what was refused, and what else
-    /// was wrong and did not decide.
+    /// Counts what is to be seen of a refusal with an error of the caller: what was refused, and
+    /// what else was wrong and did not decide.
     pub fn refused(&mut self, by: By, number: u8, position: Option<usize>, wrong: &Wrong) {
         let by = by as usize;
         let Wrong {
@@ -724,7 +724,7 @@ fn case_of_position(number: u8, position: usize, count: usize) -> Option<Case> {
 fn case_of(answer: Answer, datagram: &[u8], lock: [u8; 6], reply: &[u8]) -> Option<Case> {
     let command = datagram.get(1).copied();
     Some(match answer {
-        Answer::House { number, .. } => case_of_house(number)?,
+        Answer::CallError { number, .. } => case_of_call_error(number)?,
         Answer::Ignored => Case::Ignored,
         Answer::Nothing => Case::Nothing,
         Answer::TransportRefusal(0x2040) => Case::OutOfOrder,
@@ -781,8 +781,8 @@ fn case_of(answer: Answer, datagram: &[u8], lock: [u8; 6], reply: &[u8]) -> Opti
     })
 }
 
-/// The case of a house number; `None` for one that no call is refused by.
-const fn case_of_house(number: u8) -> Option<Case> {
+/// The case of an error of the caller; `None` for one that no call is refused with.
+const fn case_of_call_error(number: u8) -> Option<Case> {
     Some(match number {
         2 => Case::B2,
         3 => Case::B3,

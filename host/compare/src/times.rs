@@ -12,7 +12,7 @@ use crate::tally::{Case, Tally};
 
 /// The greatest age that stays.
 pub const GREATEST_AGE: u16 = 3_000;
-/// The most ticks between two calls that bring one and that no house number refuses.
+/// The most ticks between two calls that bring one and are not refused with an error of the caller.
 pub const MOST_TICKS: u64 = 61_999;
 /// After so many ticks the count of a driver is the same again.
 pub const ROUND: u64 = 65_536;
@@ -204,7 +204,7 @@ struct Past {
 #[derive(Clone, Copy, Debug, Default)]
 pub struct Pasts([Past; PLACES]);
 
-/// A call that brought a tick and that no house number refused.
+/// A call that brought a tick and was not refused with an error of the caller.
 #[derive(Clone, Copy, Debug)]
 pub struct Call<'c> {
     /// The clock at the call.

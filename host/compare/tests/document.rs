@@ -157,8 +157,8 @@ fn update_complete_is_no_write() {
     assert_eq!(board.memory, [0; 48]);
 }
 
-/// The house number and the position that a board with this alias, table, flash and memory is
-/// refused by, in either call; the reply buffer has so many bytes.
+/// The error's number and the position that a board with this alias, table, flash and memory is
+/// refused with, in either call; the reply buffer has so many bytes.
 fn refused(
     alias: u16,
     table: &[u8],
@@ -197,7 +197,7 @@ fn refused(
     );
     assert_eq!(whole, framed);
     assert_eq!((whole.kind, whole.frame_count), (0, 0));
-    (whole.house, whole.position)
+    (whole.error, whole.position)
 }
 
 const STORES: [usize; 2] = [FLASH.len(), MEMORY_LEN];
@@ -284,7 +284,7 @@ fn exactly_3000_ticks_stay() {
             let mut alone = board.clone();
             let numbers = alone.tick(now);
             assert_eq!((numbers.kind, numbers.position), (2, NO_POSITION));
-            assert_eq!((numbers.frame_count, numbers.house), (0, 0));
+            assert_eq!((numbers.frame_count, numbers.error), (0, 0));
             assert_eq!(unfinished(&mut alone), expected, "{opened}, {ticks}");
             let mut ignored = board.clone();
             assert_eq!(ignored.frame_at(now, 0x1C30_0123, &rest).kind, 1);
@@ -344,7 +344,7 @@ fn a_lone_tick_tests_b7_alone() {
     places.copy_within(..8, 8);
     let before = *places;
     let numbers = board.tick(40_000);
-    assert_eq!((numbers.kind, numbers.house), (0, 7));
+    assert_eq!((numbers.kind, numbers.error), (0, 7));
     assert_eq!((numbers.frame_count, numbers.position), (0, NO_POSITION));
     assert_eq!(*board.places(), before);
     // A place that is not held has no source.
@@ -516,7 +516,7 @@ fn b7_counts_a_tool_that_is_swallowed_and_asks_nothing_of_its_length() {
         let expected = if refused { (0, 7) } else { (2, 0) };
         let numbers = board.tick(3_000);
         assert_eq!(
-            (numbers.kind, numbers.house),
+            (numbers.kind, numbers.error),
             expected,
             "{one:?}, {other:?}"
         );

@@ -1,12 +1,15 @@
-//! Holds the expected output of the program `vectors` to the model, where its input is a board: the
-//! house number that refuses it, and the position.
+//! Holds the expected output of the program `demo_vectors` to the model, where its input is a
+//! board: the error that it is refused with, and the position.
 
 use compare::layout::spaces_in;
 use model::{handle_datagram, Description, Lock};
 
 /// A file of the program.
 fn file(name: &str) -> String {
-    let path = format!("{}/../../crates/vectors/{name}", env!("CARGO_MANIFEST_DIR"));
+    let path = format!(
+        "{}/../../crates/demo_vectors/{name}",
+        env!("CARGO_MANIFEST_DIR")
+    );
     std::fs::read_to_string(&path).unwrap_or_else(|error| panic!("{path}: {error}"))
 }
 
@@ -47,7 +50,7 @@ fn refusal(board: &[u8]) -> String {
     );
     let said = match answer {
         Ok(_) => "not refused".to_string(),
-        Err(house) => format!("refused by {house}"),
+        Err(error) => format!("refused by {error}"),
     };
     let head: String = board[..given].iter().map(|b| format!("{b:02X}")).collect();
     format!("{head} and a table of {:04X} bytes: {said}", table.len())

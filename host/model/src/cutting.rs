@@ -3,7 +3,7 @@
 use crate::datagram::LONGEST_DATAGRAM;
 use crate::description::LAST_ALIAS;
 use crate::frame::{Frame, FRAME_DATA};
-use crate::HouseNumber;
+use crate::CallError;
 
 /// The most frames that one datagram is cut into.
 pub const MOST_FRAMES: usize = LONGEST_DATAGRAM / FRAME_DATA;
@@ -31,7 +31,7 @@ impl core::ops::Deref for Frames {
 /// Cuts a datagram into the frames that carry it from source to destination.
 ///
 /// B9, and no frame, where it has more than 72 bytes or an alias is over 4,095.
-pub fn cut(datagram: &[u8], destination: u16, source: u16) -> Result<Frames, HouseNumber> {
+pub fn cut(datagram: &[u8], destination: u16, source: u16) -> Result<Frames, CallError> {
     let mut frames = [Frame::EMPTY; MOST_FRAMES];
     let count = cut_into(datagram, destination, source, &mut frames)?;
     Ok(Frames { count, frames })
@@ -44,9 +44,9 @@ pub fn cut_into(
     destination: u16,
     source: u16,
     frames: &mut [Frame; MOST_FRAMES],
-) -> Result<usize, HouseNumber> {
+) -> Result<usize, CallError> {
     if datagram.len() > LONGEST_DATAGRAM || destination > LAST_ALIAS || source > LAST_ALIAS {
-        return Err(HouseNumber::B9);
+        return Err(CallError::B9CannotBeCut);
     }
     let aliases = u32::from(destination) << 12 | u32::from(source);
     let frame = |kind: u32, data: &[u8]| {

@@ -1,7 +1,7 @@
 //! Holds the handling of one whole datagram: the commands, their replies and their refusals.
 
 use crate::description::{check_description, Description, Space};
-use crate::HouseNumber;
+use crate::CallError;
 
 /// The most bytes of a datagram, and so of a reply.
 pub const LONGEST_DATAGRAM: usize = 72;
@@ -67,16 +67,16 @@ pub fn handle_datagram(
     lock: &mut Lock,
     datagram: &[u8],
     reply: &mut [u8],
-) -> Result<Answer, HouseNumber> {
+) -> Result<Answer, CallError> {
     check_description(description, flash.len(), memory.len())?;
     check_reply_buffer(reply)?;
     Ok(handle(description, flash, memory, lock, datagram, reply))
 }
 
 /// B6.
-pub(crate) fn check_reply_buffer(reply: &[u8]) -> Result<(), HouseNumber> {
+pub(crate) fn check_reply_buffer(reply: &[u8]) -> Result<(), CallError> {
     if reply.len() < LONGEST_DATAGRAM {
-        return Err(HouseNumber::B6);
+        return Err(CallError::B6ReplyBufferTooShort);
     }
     Ok(())
 }

@@ -4,7 +4,7 @@ use crate::datagram::{handle_datagram, Answer, Lock};
 use crate::description::{Description, Space};
 use crate::joining::{handle_frame, handle_time, FrameAnswer};
 use crate::reception::Reception;
-use crate::HouseNumber;
+use crate::CallError;
 
 const SPACES: [Space; 4] = [
     Space {
@@ -83,7 +83,7 @@ impl Board {
         header: u32,
         data: &[u8],
         reply: &mut [u8],
-    ) -> Result<FrameAnswer, HouseNumber> {
+    ) -> Result<FrameAnswer, CallError> {
         handle_frame(
             &self.description,
             &self.flash,
@@ -98,12 +98,12 @@ impl Board {
     }
 
     /// Handles a lone tick with the board's reception state.
-    pub fn time(&mut self, time: u64) -> Result<(), HouseNumber> {
+    pub fn time(&mut self, time: u64) -> Result<(), CallError> {
         handle_time(&mut self.reception, time)
     }
 
     /// Handles one whole datagram with what the board owns.
-    pub fn datagram(&mut self, datagram: &[u8], reply: &mut [u8]) -> Result<Answer, HouseNumber> {
+    pub fn datagram(&mut self, datagram: &[u8], reply: &mut [u8]) -> Result<Answer, CallError> {
         handle_datagram(
             &self.description,
             &self.flash,

@@ -1,7 +1,7 @@
 //! Holds the board description, its check (B11 to B14, then B2 to B5) and the windows of its
 //! spaces.
 
-use crate::HouseNumber;
+use crate::CallError;
 
 /// The most spaces a description may hold.
 pub const MOST_SPACES: usize = 16;
@@ -45,21 +45,16 @@ impl Space {
     }
 
     /// B2, B3 and B4 for this space, which is at this position of the description.
-    fn check(
-        &self,
-        position: usize,
-        flash_len: usize,
-        memory_len: usize,
-    ) -> Result<(), HouseNumber> {
+    fn check(&self, position: usize, flash_len: usize, memory_len: usize) -> Result<(), CallError> {
         if self.lowest > self.highest {
-            return Err(HouseNumber::B2(position));
+            return Err(CallError::B2LowestAboveHighest(position));
         }
         let store_len = if self.in_flash { flash_len } else { memory_len };
         if u64::from(self.offset) + self.size() > store_len as u64 {
-            return Err(HouseNumber::B3(position));
+            return Err(CallError::B3WindowPastEnd(position));
         }
         if !self.read_only && (self.in_flash || self.number == 0xFF) {
-            return Err(HouseNumber::B4(position));
+            return Err(CallError::B4MustBeReadOnly(position));
         }
         Ok(())
     }
@@ -117,18 +112,18 @@ fn check_limits(
     description: &Description,
     flash_len: usize,
     memory_len: usize,
-) -> Result<(), HouseNumber> {
+) -> Result<(), CallError> {
     if description.spaces.len() > MOST_SPACES {
-        return Err(HouseNumber::B11);
+        return Err(CallError::B11TooManySpaces);
     }
     if memory_len > LARGEST_STORE {
-        return Err(HouseNumber::B12);
+        return Err(CallError::B12MemoryTooLarge);
     }
     if flash_len > LARGEST_STORE {
-        return Err(HouseNumber::B13);
+        return Err(CallError::B13FlashTooLarge);
     }
     if !(1..=LAST_ALIAS).contains(&description.alias) {
-        return Err(HouseNumber::B14);
+        return Err(CallError::B14AliasOutOfRange);
     }
     Ok(())
 }
@@ -138,7 +133,7 @@ pub fn check_description(
     description: &Description,
     flash_len: usize,
     memory_len: usize,
-) -> Result<(), HouseNumber> {
+) -> Result<(), CallError> {
     check_limits(description, flash_len, memory_len)?;
     // One bit for each of the 256 numbers an earlier space may have used.
     let mut used = [0u64; 4];
@@ -147,7 +142,7 @@ pub fn check_description(
         let word = &mut used[usize::from(space.number >> 6)];
         let bit = 1u64 << (space.number & 0x3F);
         if *word & bit != 0 {
-            return Err(HouseNumber::B5(position));
+            return Err(CallError::B5NumberUsedTwice(position));
         }
         *word |= bit;
     }

@@ -25,11 +25,11 @@ impl Effect {
     /// What a whole datagram does to a memory of this length; nothing, where it is no accepted
     /// write.
     ///
-    /// The description is one that no house number refuses with such a memory.
+    /// The description is one that no call refuses with such a memory.
     ///
     /// # Panics
     ///
-    /// May panic where a house number refuses the description.
+    /// May panic where a call refuses the description with an error of the caller.
     #[must_use]
     pub fn of(description: &Description, memory_len: usize, datagram: &[u8]) -> Self {
         let mut effect = Self::none(memory_len);
@@ -94,12 +94,11 @@ impl Effect {
 /// Whether the board answers a whole datagram as a write or masked write that succeeds, with
 /// Received OK 0x00. Update Complete, which is answered so too, is no write.
 ///
-/// The description is one that no house number refuses. No content of flash, memory or lock
-/// matters.
+/// The description is one that no call refuses. No content of flash, memory or lock matters.
 ///
 /// # Panics
 ///
-/// May panic where a house number refuses the description.
+/// May panic where a call refuses the description with an error of the caller.
 #[must_use]
 pub fn is_accepted_write(description: &Description, datagram: &[u8]) -> bool {
     accepted(description, datagram).is_some()

@@ -5,7 +5,7 @@ use crate::datagram::{self, check_reply_buffer, code, Answer, Lock};
 use crate::description::{check_description, Description};
 use crate::frame::FRAME_DATA;
 use crate::reception::Reception;
-use crate::HouseNumber;
+use crate::CallError;
 
 /// What the board answers to one frame.
 #[derive(Clone, Copy, Debug, PartialEq, Eq)]
@@ -83,7 +83,7 @@ pub fn handle_frame(
     header: u32,
     data: &[u8],
     reply: &mut [u8],
-) -> Result<FrameAnswer, HouseNumber> {
+) -> Result<FrameAnswer, CallError> {
     check_description(description, flash.len(), memory.len())?;
     check_reply_buffer(reply)?;
     handle_time(reception, time)?;
@@ -165,7 +165,7 @@ pub fn handle_frame(
 /// Only B7 is tested, and it changes nothing and drops nothing. Then every place whose source's
 /// last accepted frame is more than 3,000 ticks back is dropped without an answer, whether it holds
 /// an unfinished datagram or its source is being swallowed.
-pub fn handle_time(reception: &mut Reception, time: u64) -> Result<(), HouseNumber> {
+pub fn handle_time(reception: &mut Reception, time: u64) -> Result<(), CallError> {
     reception.check()?;
     reception.drop_due(time);
     Ok(())

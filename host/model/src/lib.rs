@@ -11,6 +11,7 @@
 #![warn(missing_docs)]
 
 mod bits;
+mod call_error;
 mod change;
 mod cutting;
 mod datagram;
@@ -19,7 +20,6 @@ mod description;
 mod effect;
 mod frame;
 mod gridconnect;
-mod house;
 mod joining;
 mod program;
 mod reception;
@@ -28,6 +28,7 @@ mod splitting;
 mod tool;
 
 pub use bits::put_together;
+pub use call_error::CallError;
 pub use change::{next_change, Change};
 pub use cutting::{cut, cut_into, Frames, MOST_FRAMES};
 pub use datagram::{code, handle_datagram, Answer, Lock, LONGEST_DATAGRAM};
@@ -38,7 +39,6 @@ pub use description::{
 pub use effect::{is_accepted_write, Effect};
 pub use frame::{received_ok_frame, rejected_frame, transport_reply, Frame, FRAME_DATA};
 pub use gridconnect::{parse_line, print_line, LONGEST_LINE};
-pub use house::HouseNumber;
 pub use joining::{handle_frame, handle_time, source_of, FrameAnswer};
 pub use program::{run, session, Program};
 pub use reception::{Kept, Reception, Unfinished, MOST_UNFINISHED, RECEPTION_TIMEOUT};

@@ -3,7 +3,7 @@
 
 use crate::datagram::LONGEST_DATAGRAM;
 use crate::description::LAST_ALIAS;
-use crate::HouseNumber;
+use crate::CallError;
 
 /// The most sources for which something may be kept: each has one unfinished datagram or is being
 /// swallowed.
@@ -163,7 +163,7 @@ impl Reception {
 
     /// B7: every length at most 72, every source at most 4,095, no source twice. A source that is
     /// being swallowed is a source like any other, but has no length. Nothing is asked of times.
-    pub fn check(&self) -> Result<(), HouseNumber> {
+    pub fn check(&self) -> Result<(), CallError> {
         let mut left = self.in_use;
         while left != 0 {
             let place = &self.places[left.trailing_zeros() as usize];
@@ -172,7 +172,7 @@ impl Reception {
                 || place.source > LAST_ALIAS
                 || indices(left).any(|later| self.places[later].source == place.source)
             {
-                return Err(HouseNumber::B7);
+                return Err(CallError::B7BadReceptionState);
             }
         }
         Ok(())

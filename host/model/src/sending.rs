@@ -4,7 +4,7 @@ use crate::cutting::{cut_into, MOST_FRAMES};
 use crate::datagram::Answer;
 use crate::frame::{transport_reply, Frame};
 use crate::joining::{source_of, FrameAnswer};
-use crate::HouseNumber;
+use crate::CallError;
 
 /// The most frames that the board sends for one frame: a transport reply, and a reply in frames.
 pub const MOST_SENT: usize = 1 + MOST_FRAMES;
@@ -14,9 +14,9 @@ pub const MOST_SENT: usize = 1 + MOST_FRAMES;
 /// of the frame, and a reply is at the start of `reply`. The room behind the frames keeps what it
 /// had.
 ///
-/// For a house number, an ignored, a joined and a swallowed frame there are none; for a refusal
-/// there is Rejected; else there is Received OK and, where the answer has a reply, the reply's
-/// frames.
+/// For an error of the caller, an ignored, a joined and a swallowed frame there are none; for a
+/// refusal there is Rejected; else there is Received OK and, where the answer has a reply, the
+/// reply's frames.
 ///
 /// # Panics
 ///
@@ -25,7 +25,7 @@ pub const MOST_SENT: usize = 1 + MOST_FRAMES;
 pub fn frames_to_send(
     alias: u16,
     header: u32,
-    answer: Result<FrameAnswer, HouseNumber>,
+    answer: Result<FrameAnswer, CallError>,
     reply: &[u8],
     frames: &mut [Frame; MOST_SENT],
 ) -> usize {

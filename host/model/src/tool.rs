@@ -14,7 +14,7 @@ const MOST_DATA: usize = 64;
 
 /// Why the writer, a reader or the next change gives no result.
 ///
-/// Like the house numbers of the board these go back to the caller and are never sent.
+/// Like the errors of the board's caller these go back to the caller and are never sent.
 #[derive(Clone, Copy, Debug, PartialEq, Eq, PartialOrd, Ord, Hash)]
 pub enum ToolRefusal {
     /// In writing: a count or a length that is out of range. In the next change: two images of

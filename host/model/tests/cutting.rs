@@ -5,7 +5,7 @@ mod common;
 use common::{hex, Bench};
 use model::{
     cut, cut_into, parse_line, print_line, received_ok_frame, rejected_frame, transport_reply,
-    Answer, Frame, FrameAnswer, HouseNumber, LONGEST_LINE, MOST_FRAMES,
+    Answer, CallError, Frame, FrameAnswer, LONGEST_LINE, MOST_FRAMES,
 };
 
 fn text(frame: &Frame) -> String {
@@ -81,24 +81,30 @@ fn lent_room_behind_the_frames_keeps_what_it_had() {
             }
             (count, made) => {
                 assert!(length > 72);
-                assert_eq!(count, Err(HouseNumber::B9));
-                assert_eq!(made, Err(HouseNumber::B9));
+                assert_eq!(count, Err(CallError::B9CannotBeCut));
+                assert_eq!(made, Err(CallError::B9CannotBeCut));
                 assert_eq!(room, [other; MOST_FRAMES]);
             }
         }
     }
     let mut room = [other; MOST_FRAMES];
-    assert_eq!(cut_into(&[], 4_096, 2, &mut room), Err(HouseNumber::B9));
-    assert_eq!(cut_into(&[], 1, 4_096, &mut room), Err(HouseNumber::B9));
+    assert_eq!(
+        cut_into(&[], 4_096, 2, &mut room),
+        Err(CallError::B9CannotBeCut)
+    );
+    assert_eq!(
+        cut_into(&[], 1, 4_096, &mut room),
+        Err(CallError::B9CannotBeCut)
+    );
     assert_eq!(room, [other; MOST_FRAMES]);
 }
 
 #[test]
 fn b9() {
-    assert_eq!(cut(&[0; 73], 1, 2), Err(HouseNumber::B9));
-    assert_eq!(cut(&[], 4_096, 2), Err(HouseNumber::B9));
-    assert_eq!(cut(&[], 1, 4_096), Err(HouseNumber::B9));
-    assert_eq!(cut(&[], 65_535, 65_535), Err(HouseNumber::B9));
+    assert_eq!(cut(&[0; 73], 1, 2), Err(CallError::B9CannotBeCut));
+    assert_eq!(cut(&[], 4_096, 2), Err(CallError::B9CannotBeCut));
+    assert_eq!(cut(&[], 1, 4_096), Err(CallError::B9CannotBeCut));
+    assert_eq!(cut(&[], 65_535, 65_535), Err(CallError::B9CannotBeCut));
     assert_eq!(cut(&[0; 72], 4_095, 4_095).unwrap().len(), 9);
     assert_eq!(cut(&[], 0, 0).unwrap().len(), 1);
 }

@@ -47,7 +47,7 @@ fn applied(effect: &Effect, memory: &[u8]) -> Vec<u8> {
 /// What the board answers to one datagram, and the reply buffer afterwards.
 fn answer(board: &mut Bench, datagram: &[u8]) -> (Answer, Vec<u8>) {
     board.reply.fill(FILL);
-    let answer = board.datagram(datagram).expect("no house number");
+    let answer = board.datagram(datagram).expect("no error of the caller");
     (answer, board.reply.clone())
 }
 

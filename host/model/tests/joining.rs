@@ -13,7 +13,7 @@ const WRITE: [u8; 7] = [0x20, 0x01, 0, 0, 0, 2, 0xAB];
 fn send(board: &mut Bench, header: u32, data: &[u8]) -> FrameAnswer {
     let before = board.clone();
     board.reply.fill(FILL);
-    let answer = board.frame(header, data).expect("no house number");
+    let answer = board.frame(header, data).expect("no error of the caller");
     if !matches!(answer, Handled(_)) {
         assert_eq!(board.memory, before.memory);
         assert_eq!(board.lock, before.lock);

@@ -4,8 +4,8 @@ mod common;
 
 use common::{first, hex, last, middle, single, space, Bench};
 use model::{
-    cut, frames_to_send, parse_line, print_line, received_ok_frame, Frame, FrameAnswer,
-    HouseNumber, LONGEST_LINE, MOST_SENT,
+    cut, frames_to_send, parse_line, print_line, received_ok_frame, CallError, Frame, FrameAnswer,
+    LONGEST_LINE, MOST_SENT,
 };
 
 fn other() -> Frame {
@@ -57,7 +57,7 @@ fn the_session_of_document_01() {
 }
 
 #[test]
-fn nothing_is_sent_for_a_house_number_an_ignored_and_a_joined_frame() {
+fn nothing_is_sent_for_an_error_of_the_caller_an_ignored_and_a_joined_frame() {
     let read = hex("20410000000201");
     let mut board = Bench::demo();
     // Ignored: another header, over 29 bits, another destination, the board itself, over 8 bytes.
@@ -70,7 +70,7 @@ fn nothing_is_sent_for_a_house_number_an_ignored_and_a_joined_frame() {
     assert_eq!(sent(&mut board, first(1), &read), []);
     assert_eq!(sent(&mut board, middle(1), &[1]), []);
     assert_eq!(sent(&mut board, first(2), &[]), []);
-    // House numbers.
+    // Errors of the caller.
     for spoil in [
         |board: &mut Bench| board.alias = 0,
         |board: &mut Bench| board.alias = 0x122B,
@@ -82,15 +82,15 @@ fn nothing_is_sent_for_a_house_number_an_ignored_and_a_joined_frame() {
         assert!(board.frame(single(1), &read).is_err());
         assert_eq!(sent(&mut board, single(1), &read), []);
     }
-    for number in [
-        HouseNumber::B11,
-        HouseNumber::B14,
-        HouseNumber::B2(0),
-        HouseNumber::B5(15),
-        HouseNumber::B7,
+    for error in [
+        CallError::B11TooManySpaces,
+        CallError::B14AliasOutOfRange,
+        CallError::B2LowestAboveHighest(0),
+        CallError::B5NumberUsedTwice(15),
+        CallError::B7BadReceptionState,
     ] {
         let mut room = [other(); MOST_SENT];
-        let count = frames_to_send(0x22B, single(1), Err(number), &[], &mut room);
+        let count = frames_to_send(0x22B, single(1), Err(error), &[], &mut room);
         assert_eq!((count, room), (0, [other(); MOST_SENT]));
     }
 }

@@ -1,6 +1,6 @@
 //! Holds the tests of C-15: a broken datagram gets one refusal, and what is left of it is swallowed.
 //! They say what starts the swallowing, what is swallowed, what ends it, and what its place counts
-//! for. How it grows old is tested with the times, what B7 says of it with the house numbers.
+//! for. How it grows old is tested with the times, what B7 says of it with the caller's errors.
 
 mod common;
 
@@ -16,7 +16,7 @@ const WRITTEN: FrameAnswer = Handled(Answer::Written { start: 2, count: 1 });
 fn send(board: &mut Bench, header: u32, data: &[u8]) -> FrameAnswer {
     let before = board.clone();
     board.reply.fill(FILL);
-    let answer = board.frame(header, data).expect("no house number");
+    let answer = board.frame(header, data).expect("no error of the caller");
     if !matches!(answer, Handled(_)) {
         assert_eq!(board.memory, before.memory);
         assert_eq!(board.lock, before.lock);

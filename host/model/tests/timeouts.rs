@@ -8,12 +8,16 @@ use common::{
     entry, first, hex, last, middle, single, space, swallowed, Bench, Book, Numbers, FILL,
 };
 use model::{
-    demo_board, handle_time, Answer, FrameAnswer, HouseNumber, Kept, Reception, Unfinished,
+    demo_board, handle_time, Answer, CallError, FrameAnswer, Kept, Reception, Unfinished,
     RECEPTION_TIMEOUT,
 };
 use Book::{Holds, Swallowed};
+use CallError::{
+    B11TooManySpaces, B12MemoryTooLarge, B13FlashTooLarge, B14AliasOutOfRange,
+    B2LowestAboveHighest, B3WindowPastEnd, B4MustBeReadOnly, B5NumberUsedTwice,
+    B6ReplyBufferTooShort, B7BadReceptionState,
+};
 use FrameAnswer::{Handled, Ignored, Nothing, TransportRefusal};
-use HouseNumber::{B11, B12, B13, B14, B2, B3, B4, B5, B6, B7};
 
 const WRITE: [u8; 7] = [0x20, 0x01, 0, 0, 0, 2, 0xAB];
 const WRITTEN: FrameAnswer = Handled(Answer::Written { start: 2, count: 1 });
@@ -40,7 +44,7 @@ const STARTS: [u64; 14] = [
 fn at(board: &mut Bench, time: u64, header: u32, data: &[u8]) -> FrameAnswer {
     board.time = time;
     board.reply.fill(FILL);
-    let answer = board.frame(header, data).expect("no house number");
+    let answer = board.frame(header, data).expect("no error of the caller");
     if !matches!(answer, Handled(Answer::Replied(_))) {
         assert!(board.reply.iter().all(|&byte| byte == FILL));
     }
@@ -51,7 +55,7 @@ fn at(board: &mut Bench, time: u64, header: u32, data: &[u8]) -> FrameAnswer {
 fn tick(board: &mut Bench, time: u64) {
     let before = board.clone();
     board.time = time;
-    board.lone_tick().expect("no house number");
+    board.lone_tick().expect("no error of the caller");
     assert_eq!(board.memory, before.memory);
     assert_eq!(board.lock, before.lock);
     assert_eq!(board.reply, before.reply);
@@ -673,20 +677,26 @@ fn an_entry_of_a_later_time_is_not_old() {
     }
 }
 
-/// A house number, and how a sound board comes to be refused with it.
-type Spoiled = (HouseNumber, fn(&mut Bench));
+/// An error, and how a sound board comes to be refused with it.
+type Spoiled = (CallError, fn(&mut Bench));
 
 const SPOILED: [Spoiled; 10] = [
-    (B11, |board| board.spaces = vec![space(1, 0, 0, 0); 17]),
-    (B12, |board| board.memory.resize(65_537, 0)),
-    (B13, |board| board.flash.resize(65_537, 0)),
-    (B14, |board| board.alias = 0),
-    (B14, |board| board.alias = 4_096),
-    (B2(1), |board| board.spaces[1].lowest = 0x30),
-    (B3(0), |board| board.spaces[0].highest = 48),
-    (B4(2), |board| board.spaces[2].read_only = false),
-    (B5(3), |board| board.spaces[3].number = 0xFD),
-    (B6, |board| board.reply.truncate(71)),
+    (B11TooManySpaces, |board| {
+        board.spaces = vec![space(1, 0, 0, 0); 17]
+    }),
+    (B12MemoryTooLarge, |board| board.memory.resize(65_537, 0)),
+    (B13FlashTooLarge, |board| board.flash.resize(65_537, 0)),
+    (B14AliasOutOfRange, |board| board.alias = 0),
+    (B14AliasOutOfRange, |board| board.alias = 4_096),
+    (B2LowestAboveHighest(1), |board| {
+        board.spaces[1].lowest = 0x30
+    }),
+    (B3WindowPastEnd(0), |board| board.spaces[0].highest = 48),
+    (B4MustBeReadOnly(2), |board| {
+        board.spaces[2].read_only = false
+    }),
+    (B5NumberUsedTwice(3), |board| board.spaces[3].number = 0xFD),
+    (B6ReplyBufferTooShort, |board| board.reply.truncate(71)),
 ];
 
 #[test]
@@ -701,7 +711,7 @@ fn a_refused_call_drops_nothing_and_renews_nothing() {
     ];
     let sound = board_with(&[(1, 0), (2, 0), (3, 5_000)]);
     let swallowing = board_of(&[swallowed_at(1, 0), entry_at(2, 0), swallowed_at(3, 5_000)]);
-    for (house_number, spoil) in SPOILED {
+    for (error, spoil) in SPOILED {
         for (time, state) in [0, 3_000, 3_001, 5_000, 8_001, u64::MAX]
             .into_iter()
             .flat_map(|time| [(time, &sound), (time, &swallowing)])
@@ -711,7 +721,7 @@ fn a_refused_call_drops_nothing_and_renews_nothing() {
             spoiled.time = time;
             for (header, data) in frames {
                 let mut board = spoiled.clone();
-                assert_eq!(board.frame(header, data), Err(house_number));
+                assert_eq!(board.frame(header, data), Err(error));
                 board.assert_as(&spoiled);
             }
         }
@@ -726,9 +736,9 @@ fn a_refused_call_drops_nothing_and_renews_nothing() {
 fn assert_refused_calls_do_not_renew(mut board: Bench) {
     board.reply.truncate(71);
     board.time = 2_000;
-    assert_eq!(board.frame(middle(1), &[0x20]), Err(B6));
+    assert_eq!(board.frame(middle(1), &[0x20]), Err(B6ReplyBufferTooShort));
     board.time = 3_001;
-    assert_eq!(board.frame(middle(1), &[0x20]), Err(B6));
+    assert_eq!(board.frame(middle(1), &[0x20]), Err(B6ReplyBufferTooShort));
     assert_eq!(board.times(), [(1, 0), (2, 0), (3, 5_000)]);
     board.reply.resize(72, FILL);
     assert_eq!(
@@ -771,9 +781,9 @@ fn a_lone_tick_tests_b7() {
             board.reception = Reception::from_unfinished(entries).unwrap();
             let before = board.clone();
             board.time = time;
-            assert_eq!(board.lone_tick(), Err(B7));
+            assert_eq!(board.lone_tick(), Err(B7BadReceptionState));
             board.assert_as(&before);
-            assert_eq!(board.frame(single(9), &[0x20]), Err(B7));
+            assert_eq!(board.frame(single(9), &[0x20]), Err(B7BadReceptionState));
             board.assert_as(&before);
         }
     }

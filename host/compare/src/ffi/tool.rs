@@ -6,7 +6,7 @@
 use super::{Flag, Places, Pool};
 
 /// The version of the edge that this module is written for.
-pub const VERSION: u32 = 0x0002_0001;
+pub const VERSION: u32 = 0x0003_0000;
 
 /// What comes of writing a command.
 #[derive(Clone, Copy, Debug, PartialEq, Eq)]
@@ -149,7 +149,7 @@ pub struct Change {
     pub count: usize,
 }
 
-#[link(name = "tool", kind = "static")]
+#[link(name = "bujorelm_tool", kind = "static")]
 extern "C" {
     fn bujorelm_tool_version() -> u32;
     fn bujorelm_compose_read(

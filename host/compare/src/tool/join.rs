@@ -19,7 +19,7 @@ use crate::setup::{compare_places, hex, in_order, same, Changes};
 use crate::times::{any_age, any_due, is_due, GREATEST_AGE, ROUND};
 use crate::tool::cases::{ToolCase, ToolTally};
 use crate::tool::Archive;
-use model::{FrameAnswer, HouseNumber, Kept, Reception};
+use model::{CallError, FrameAnswer, Kept, Reception};
 
 /// The tick that a frame comes at.
 const TICK: u16 = 0;
@@ -116,7 +116,7 @@ impl Joiner {
             &mut [0; 72],
         );
         match answer {
-            Err(HouseNumber::B7) => Outcome::Damaged,
+            Err(CallError::B7BadReceptionState) => Outcome::Damaged,
             // No other number can be: the board is a good one.
             Err(other) => Outcome::Refused(u16::from(other.number())),
             Ok(FrameAnswer::Ignored) => Outcome::Ignored,

@@ -10,7 +10,7 @@ use model::Space;
 /// thousand times as long there.
 const LARGE: usize = 700;
 
-/// A board that no house number refuses, with two writable spaces in memory at least.
+/// A board that no call refuses, with two writable spaces in memory at least.
 pub fn overlapping_board(random: &mut Random) -> Board {
     let memory_len = memory_len(random);
     let flash_len = random.pick(&[0, 1, 16, 40]);

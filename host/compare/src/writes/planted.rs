@@ -214,7 +214,7 @@ fn store(memory: &mut [u8], start: usize, pairs: &[(u8, u8)]) {
 const REJECTED: Numbers = Numbers {
     kind: 4,
     code: 0x1080,
-    house: 0,
+    error: 0,
     flags: 0,
     changed_at: 0,
     changed_len: 0,

@@ -3,8 +3,8 @@
 #![allow(dead_code)]
 
 use model::{
-    demo_board, handle_datagram, handle_frame, handle_time, Answer, Description, FrameAnswer,
-    HouseNumber, Kept, Reception, Space, Unfinished,
+    demo_board, handle_datagram, handle_frame, handle_time, Answer, CallError, Description,
+    FrameAnswer, Kept, Reception, Space, Unfinished,
 };
 
 /// What fills a reply buffer before a call.
@@ -91,7 +91,7 @@ impl Bench {
         }
     }
 
-    pub fn datagram(&mut self, datagram: &[u8]) -> Result<Answer, HouseNumber> {
+    pub fn datagram(&mut self, datagram: &[u8]) -> Result<Answer, CallError> {
         let description = Description {
             alias: self.alias,
             write_lengths: self.write_lengths,
@@ -107,7 +107,7 @@ impl Bench {
         )
     }
 
-    pub fn frame(&mut self, header: u32, data: &[u8]) -> Result<FrameAnswer, HouseNumber> {
+    pub fn frame(&mut self, header: u32, data: &[u8]) -> Result<FrameAnswer, CallError> {
         let description = Description {
             alias: self.alias,
             write_lengths: self.write_lengths,
@@ -126,7 +126,7 @@ impl Bench {
         )
     }
 
-    pub fn lone_tick(&mut self) -> Result<(), HouseNumber> {
+    pub fn lone_tick(&mut self) -> Result<(), CallError> {
         handle_time(&mut self.reception, self.time)
     }
 
@@ -136,7 +136,10 @@ impl Bench {
     pub fn say(&mut self, datagram: &str) -> String {
         let before = self.clone();
         self.reply.fill(FILL);
-        match self.datagram(&hex(datagram)).expect("no house number") {
+        match self
+            .datagram(&hex(datagram))
+            .expect("no error of the caller")
+        {
             Answer::Rejected(code) => {
                 assert_eq!(self.memory, before.memory);
                 assert_eq!(self.lock, before.lock);

@@ -1,0 +1,23 @@
+-- The numbers of a command that was to be written.
+-- Assumes nothing.
+use Prim.Native.Nat.{ℕ, _<_}
+use mathlib.Core.Path.{_≡_, ap, _∙_}
+use mathlib.Core.Bool.{Bool, true, false, _&&_}
+use mathlib.Core.List.{List}
+use native.Mathlib.Omega.{arith}
+use borrow.Author.Tests.{le-leb, lt-leb}
+use Rattle.cmd_fields.specs.Commands.{Request, read}
+use Rattle.tool_write_spec.specs.Writing.{inRange, CommandWrites}
+use Rattle.tool_write_spec.specs.declared.CommandWritten.{CommandWritten}
+use Rattle.tool_result_spec.specs.Numbers.{composedOf}
+use Rattle.tool_result_spec.specs.declared.Composed.{Composed}
+use Rattle.bujorelm_tool.specs.Composing.{Composes}
+
+pub composes : {whole : Bool} {q : Request} {w : CommandWritten} {r : Composed} {before after : List ℕ} → CommandWrites whole q w before after → r ≡ composedOf w →
+    Composes whole q r before after
+composes p e = record { answer = e ∙ ap composedOf (p .answer); buffer = p .buffer; oneForm = p .oneForm; allInRange = p .allInRange }
+
+-- a count that is no byte's, or over 64
+pub count-over : (space address count : ℕ) → 64 < count → (true && inRange (read space address count)) ≡ false
+unfolding inRange
+count-over space address count h = rw (le-leb 1 count (omega arith), lt-leb count 64 h)

@@ -1,0 +1,2 @@
+pub mod CallErrors
+pub mod Positions

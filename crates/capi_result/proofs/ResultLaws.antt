@@ -1,0 +1,88 @@
+-- Laws of a call's numbers: those of a call have room in their bytes, and memory changed nowhere but in the range that they name.
+-- Assumes nothing.
+use Prim.Native.Nat.{ℕ, _≤_, min}
+use mathlib.Core.Path.{_≡_, refl, _∙_}
+use mathlib.Core.List.{List}
+use native.Mathlib.Omega.{arith}
+use Rattle.exec_store.specs.Storing.{OnlyWithin}
+use Rattle.exec_spec.specs.Access.{Changes}
+use Rattle.reply_answer.specs.Answers.{SmallAnswer}
+use Rattle.reply_answer.specs.declared.Answer.{Answer}
+use Rattle.reply_answer.specs.declared.Answer.the-variants as answer
+use Rattle.node_spec.specs.DatagramCall.{SmallHandled, HandledChanges}
+use Rattle.node_spec.specs.declared.Handled.{Handled}
+use Rattle.node_spec.specs.declared.Handled.the-variants as handled
+use Rattle.node_spec.specs.FrameCall.{SmallFrame, FrameChanges}
+use Rattle.node_spec.specs.declared.FrameAnswer.{FrameAnswer}
+use Rattle.node_spec.specs.declared.FrameAnswer.the-variants as frame
+use Rattle.capi_words.specs.Words.{allNumbers, noPosition, inBytes}
+use Rattle.capi_words.specs.declared.CallResult.{CallResult}
+use Rattle.capi_result.specs.Result.{answerNumbers, handledNumbers, frameNumbers}
+
+-- ---- room
+
+has-room : (kind error position flags code index n reply frames : ℕ) → index ≤ 65536 → n ≤ 64 → reply ≤ 72 → frames ≤ 10
+    → inBytes (allNumbers kind error position flags code index n reply frames) ≡ allNumbers kind error position flags code index n reply frames
+has-room kind error position flags code index n reply frames a b c d =
+    let i : min index 0xFFFFFFFF ≡ index = omega arith in
+    let j : min n 255 ≡ n = omega arith in
+    let k : min reply 255 ≡ reply = omega arith in
+    let l : min frames 255 ≡ frames = omega arith in
+    rw (i, j, k, l)
+
+answer-room : (a : Answer) (frames : ℕ) → SmallAnswer a → frames ≤ 10 → inBytes (answerNumbers a frames) ≡ answerNumbers a frames
+answer-room (answer.Rejected code) frames s h = has-room 4 0 noPosition 0 code 0 0 0 frames (omega arith) (omega arith) (omega arith) h
+answer-room (answer.Written index n) frames s h = has-room 5 0 noPosition 0 0 index n 0 frames (omega (arith, s .0)) (s .1) (omega arith) h
+answer-room answer.UpdateComplete frames s h = has-room 7 0 noPosition 0 0 0 0 0 frames (omega arith) (omega arith) (omega arith) h
+answer-room (answer.Replied n) frames s h = has-room 6 0 noPosition 0x80 0 0 0 n frames (omega arith) (omega arith) s h
+
+handled-room : (r : Handled) → SmallHandled r → inBytes (handledNumbers r) ≡ handledNumbers r
+handled-room (handled.Refused error) s = refl
+handled-room (handled.Answered a) s = answer-room a 0 s (omega arith)
+
+frame-room : (r : FrameAnswer) (frames : ℕ) → SmallFrame r → frames ≤ 10 → inBytes (frameNumbers r frames) ≡ frameNumbers r frames
+frame-room (frame.Refused error) frames s h = has-room 0 _ _ 0 0 0 0 0 frames (omega arith) (omega arith) (omega arith) h
+frame-room frame.Ignored frames s h = has-room 1 0 noPosition 0 0 0 0 0 frames (omega arith) (omega arith) (omega arith) h
+frame-room frame.Nothing frames s h = has-room 2 0 noPosition 0 0 0 0 0 frames (omega arith) (omega arith) (omega arith) h
+frame-room (frame.TransportRefusal code) frames s h = has-room 3 0 noPosition 0 code 0 0 0 frames (omega arith) (omega arith) (omega arith) h
+frame-room (frame.Answered a) frames s h = answer-room a frames s h
+
+-- ---- what changed
+
+module _ (old new : List ℕ) where
+  -- the same bytes differ in none
+  none-changed : new ≡ old → OnlyWithin 0 0 old new
+  none-changed e = rw e (record { size = refl; before = refl; behind = refl })
+
+  answer-within : (a : Answer) (frames : ℕ) → Changes a old new → OnlyWithin (answerNumbers a frames .«changed_at») (answerNumbers a frames .«changed_len») old new
+  answer-within (answer.Rejected code) frames e = none-changed e
+  answer-within (answer.Written index n) frames e = e
+  answer-within answer.UpdateComplete frames e = none-changed e
+  answer-within (answer.Replied n) frames e = none-changed e
+
+  handled-within : (r : Handled) → HandledChanges r old new → OnlyWithin (handledNumbers r .«changed_at») (handledNumbers r .«changed_len») old new
+  handled-within (handled.Refused error) e = none-changed e
+  handled-within (handled.Answered a) e = answer-within a 0 e
+
+  frame-within : (r : FrameAnswer) (frames : ℕ) → FrameChanges r old new → OnlyWithin (frameNumbers r frames .«changed_at») (frameNumbers r frames .«changed_len») old new
+  frame-within (frame.Refused error) frames e = none-changed e
+  frame-within frame.Ignored frames e = none-changed e
+  frame-within frame.Nothing frames e = none-changed e
+  frame-within (frame.TransportRefusal code) frames e = none-changed e
+  frame-within (frame.Answered a) frames e = answer-within a frames e
+
+-- ---- the numbers that the code gives
+
+module _ {r : CallResult} (h : Handled) (e : r ≡ inBytes (handledNumbers h)) (small : SmallHandled h) where
+  pub handled-exact : r ≡ handledNumbers h
+  handled-exact = e ∙ handled-room h small
+
+  pub handled-range : (old new : List ℕ) → HandledChanges h old new → OnlyWithin (r .«changed_at») (r .«changed_len») old new
+  handled-range old new q = rw handled-exact (handled-within old new h q)
+
+module _ {r : CallResult} (a : FrameAnswer) (n : ℕ) (e : r ≡ inBytes (frameNumbers a n)) (small : SmallFrame a) (few : n ≤ 10) where
+  pub frame-exact : r ≡ frameNumbers a n
+  frame-exact = e ∙ frame-room a n small few
+
+  pub frame-range : (old new : List ℕ) → FrameChanges a old new → OnlyWithin (r .«changed_at») (r .«changed_len») old new
+  frame-range old new q = rw frame-exact (frame-within old new a n q)

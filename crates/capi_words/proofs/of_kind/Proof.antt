@@ -1,0 +1,31 @@
+-- `of_kind` meets its contract.
+-- Assumes nothing.
+use Prim.Native.Nat.{min}
+use native.Mathlib.Omega.{arith}
+use borrow.Author.Needs.{needs}
+use Rattle.capi_words.specs.Words.{noPosition}
+use Rattle.capi_words.proofs.WordLaws.{sum-fields}
+use Rattle.capi_words.proofs.of_kind.Statement.{statement}
+use Rattle.capi_words.proofs.of_kind.Tie as tie
+
+returns : tie.Need-returns
+returns c =
+    let a = c .before .args in
+    let e = c .byte .ensures in
+    sum-fields (a .kind) 0 noPosition (a .flags) (a .code) 0 0 0 (min (a .frame-count) 255) (omega arith) (omega arith) (omega arith) (omega arith) (omega arith) (omega arith) (omega arith) (omega arith) (omega arith) _ (omega arith) (omega (arith, e))
+
+pub of-kind-spec : {M : Type 1} → statement M
+of-kind-spec =
+    tie.close
+    (tie.spec
+    (λ c κs. search needs)
+    (λ c. search needs)
+    (λ c. search needs)
+    (λ c. search needs)
+    (λ c. search needs)
+    (λ c. search needs)
+    (λ c. search needs)
+    (λ c. search needs)
+    (λ c. search needs)
+    (λ c. search needs)
+    returns)

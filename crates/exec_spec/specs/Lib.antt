@@ -1,0 +1,4 @@
+pub mod Access
+pub mod Handling
+pub mod Performing
+pub mod LentBoard

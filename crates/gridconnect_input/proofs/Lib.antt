@@ -1,0 +1,4 @@
+pub mod CutLaws
+pub mod ChunkLaws
+pub mod StepLaws
+pub mod NewlineLaws

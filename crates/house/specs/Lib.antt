@@ -1,2 +1,0 @@
-pub mod HouseNumbers
-pub mod Positions

@@ -1,0 +1,13 @@
+// What comes of joining a frame: what the code gives back, as definitions in specs/, with what is owed for each
+// outcome; the code is in `rx_join`.
+
+// What a frame brings about. A finished datagram is the frame's own data, or the part of the pool from the first number
+// up to the second.
+pub enum JoinResult {
+    BadState,
+    Ignored,
+    NoAnswer,
+    Refuse(u16),
+    InFrame,
+    InPool(usize, usize),
+}

@@ -1,0 +1,165 @@
+-- The wrapping age is the true age, and eight places are free once frames stop being accepted. The invariant: each place that is held keeps
+-- the tick of the time at which its source's last frame was accepted, and is not more than 3,000 ticks old after a call.
+-- Assumes nothing.
+use Prim.Native.Nat.{ℕ, _+_}
+use mathlib.Core.Path.{_≡_, refl, sym, ap, _∙_, subst}
+use mathlib.Core.Bool.{Bool, true, false, cond, _&&_}
+use mathlib.Core.List.{List, [], _∷_, _++_}
+use native.Mathlib.Omega.{arith}
+use lib.Dec.{eqb}
+use lib.ListN.{length}
+use borrow.Author.Tests.{eqb-true, eq-eqb, lt-ltb}
+use Rattle.buffer.proofs.Choice.{clash, by-test}
+use Rattle.can_frame.specs.Frame.{CanFrame, sourceOf}
+use Rattle.rx_spec.specs.Place.{Place}
+use Rattle.rx_spec.specs.Ticks.{tickAt, age, isDue, dropDue}
+use Rattle.rx_spec.specs.Times.{Input, frameInput, loneTick, Timed, Follows, TimelyAfter, Timely, isAccepted}
+use Rattle.rx_spec.specs.Reception.{State, sound, atTick}
+use Rattle.rx_spec.specs.Order.{FrameResult, answerEvent, handleInput, runCalls, Fresh, Each, timesOf, stateRefused, keep}
+use Rattle.rx_spec.specs.Aging.{isCallerError, acceptsFrame, Unrefused, acceptsFrom, lastFrom, TrueAges, FarBefore, EachAccepted, freeCount, EightFree, JoinAging}
+use Rattle.rx_spec.proofs.PlaceLaws.{sound-good, blank-none}
+use Rattle.rx_spec.proofs.StepLaws.{Sized}
+use Rattle.rx_spec.proofs.DropLaws.{AllDated, none-dated, sized-due, age-is, due-old, by-due, dated-due, all-dated}
+use Rattle.rx_spec.proofs.InputLaws.{taken, input-is, frame-step, unrefused-sound, accepted-is, answered-state}
+
+module _ {C H W A : Type 0} (heard : C → Timed) (b7 : H) (handle : W → List ℕ → A × W) (alias : ℕ) (one : State → W → C → FrameResult H W A)
+    (same : (st : State) (w : W) (c : C) → isCallerError (one st w c .answer) ≡ false → one st w c ≡ handleInput b7 handle alias st w (heard c .time) (heard c .input)) where
+  -- ---- one call
+
+  -- what a call leaves, by the times at which each source's last frame was accepted
+  pub record Left (P : ℕ → Type 0) (last : ℕ → ℕ) (t : ℕ) (st : State) : Type 0 where
+    pub sized : Sized st
+    pub dated : AllDated P last t (st .places)
+
+  -- the times after a call at t that brings i and is answered as r says
+  abbrev pub later : (ℕ → ℕ) → ℕ → Input → FrameResult H W A → ℕ → ℕ
+  later last t i r s = cond (acceptsFrom s i (r .answer)) t (last s)
+
+  module _ (P : ℕ → Type 0) (last : ℕ → ℕ) (now t : ℕ) (st : State) (w : W) (follows : Follows now t) (ok : sound (st .places) ≡ true)
+      (before : Left P last now st) where
+    -- the call, answered
+    abbrev answered : Input → FrameResult H W A
+    answered i = answerEvent b7 handle (taken alias (tickAt t) st i .state) w (taken alias (tickAt t) st i .event)
+
+    after-drop : AllDated P last t (atTick (tickAt t) st .places)
+    after-drop = dated-due P last now t follows (st .places) (before .dated)
+
+    -- a frame
+    module _ (f : CanFrame) (accepted-back : acceptsFrame (frameInput f) (answered (frameInput f) .answer) ≡ true → P t) where
+      abbrev s : ℕ
+      s = sourceOf (f .header)
+
+      abbrev accepted : Bool
+      accepted = isAccepted (taken alias (tickAt t) st (frameInput f) .event)
+
+      by-answer : acceptsFrame (frameInput f) (answered (frameInput f) .answer) ≡ accepted
+      by-answer = accepted-is b7 handle (taken alias (tickAt t) st (frameInput f) .state) w f (taken alias (tickAt t) st (frameInput f) .event)
+
+      own : accepted ≡ true → (later last t (frameInput f) (answered (frameInput f)) s ≡ t) × P t
+      own e =
+          let y : acceptsFrom s (frameInput f) (answered (frameInput f) .answer) ≡ true =
+          ap (λ (b : Bool). b && acceptsFrame (frameInput f) (answered (frameInput f) .answer)) (eq-eqb s s refl) ∙ by-answer ∙ e in
+          (rw y, accepted-back (by-answer ∙ e))
+
+      else : (x : ℕ) → (s ≡ x → accepted ≡ false) → later last t (frameInput f) (answered (frameInput f)) x ≡ last x
+      else x n =
+          let y : acceptsFrom x (frameInput f) (answered (frameInput f) .answer) ≡ false =
+          by-test (eqb s x)
+          (λ q. ap (λ (b : Bool). b && acceptsFrame (frameInput f) (answered (frameInput f) .answer)) q ∙ by-answer ∙ n (eqb-true s x q))
+          (λ q. ap (λ (b : Bool). b && acceptsFrame (frameInput f) (answered (frameInput f) .answer)) q) in
+          rw y
+
+      frame-left : Left P (later last t (frameInput f) (answered (frameInput f))) t (taken alias (tickAt t) st (frameInput f) .state)
+      frame-left =
+          let step = frame-step alias (tickAt t) f st (sound-good (st .places) ok) (before .sized) in
+          record { sized = step .sized; dated = all-dated P last _ t s accepted own else (atTick (tickAt t) st .places) (taken alias (tickAt t) st (frameInput f) .state .places) after-drop (step .turned) }
+
+    input-left : (i : Input) → (acceptsFrame i (answered i .answer) ≡ true → P t) → Left P (later last t i (answered i)) t (answered i .state)
+    input-left (frameInput f) a =
+        subst (λ (x : State). Left P (later last t (frameInput f) (answered (frameInput f))) t x)
+        (sym (answered-state b7 handle (taken alias (tickAt t) st (frameInput f) .state) w (taken alias (tickAt t) st (frameInput f) .event))) (frame-left f a)
+    input-left loneTick a = record { sized = sized-due (tickAt t) st (before .sized); dated = after-drop }
+
+    pub call-left : (c : C) → heard c .time ≡ t → isCallerError (one st w c .answer) ≡ false → (acceptsFrame (heard c .input) (one st w c .answer) ≡ true → P t) →
+        Left P (later last t (heard c .input) (one st w c)) t (one st w c .state)
+    call-left c e h a =
+        let q : answered (heard c .input) ≡ one st w c =
+        sym (same st w c h ∙ ap (λ (x : ℕ). handleInput b7 handle alias st w x (heard c .input)) e ∙ input-is b7 handle alias st w t (heard c .input) ok) in
+        subst (λ (r : FrameResult H W A). (acceptsFrame (heard c .input) (r .answer) ≡ true → P t) → Left P (later last t (heard c .input) r) t (r .state)) q
+        (input-left (heard c .input)) a
+
+  -- ---- the list of calls
+
+  -- a state at a time `now` with fewer than 62,000 ticks to go to the time t
+  pub record Ready (P : ℕ → Type 0) (last : ℕ → ℕ) (t : ℕ) (st : State) : Type 0 where
+    pub now : ℕ
+    pub follows : Follows now t
+    pub left : Left P last now st
+
+  all : (P : ℕ → Type 0) (t : ℕ) (cs : List C) (now : ℕ) (last : ℕ → ℕ) (st : State) (w : W) → Left P last now st →
+      TimelyAfter now (timesOf heard cs ++ t ∷ []) → Unrefused one st w cs → EachAccepted P heard one st w cs →
+      Ready P (λ s. lastFrom heard one s (last s) st w cs) t (runCalls one st w cs .state)
+  all P t [] now last st w l k u a = record { now = now; follows = k .0; left = l }
+  all P t (c ∷ cs) now last st w l k u a =
+      let x : Timed = heard c in
+      let e : isCallerError (handleInput b7 handle alias st w (x .time) (x .input) .answer) ≡ false = ap (λ (r : FrameResult H W A). isCallerError (r .answer)) (sym (same st w c (u .0))) ∙ u .0 in
+      let ok : sound (st .places) ≡ true = unrefused-sound b7 handle alias st w (x .time) (x .input) e in
+      all P t cs (x .time) (later last (x .time) (x .input) (one st w c)) (one st w c .state) (one st w c .world)
+      (call-left P last now (x .time) st w (k .0) ok l c refl (u .0) (a .0)) (k .1) (u .1) (a .1)
+
+  -- at the start nothing is unfinished, at any time
+  started : (P : ℕ → Type 0) (last : ℕ → ℕ) (now : ℕ) (st : State) → Fresh st → Left P last now st
+  started P last now st start =
+      record {
+        sized = record { eight = start .eight; bytes = start .bytes };
+        dated = none-dated P last now (st .places) (λ s. blank-none s (st .places) (st .pool) (start .nothing-unfinished s));
+      }
+
+  pub ready : (P : ℕ → Type 0) (st : State) (w : W) (cs : List C) (t : ℕ) → Fresh st → Timely (timesOf heard cs ++ t ∷ []) → Unrefused one st w cs → EachAccepted P heard one st w cs →
+      Ready P (λ s. lastFrom heard one s 0 st w cs) t (runCalls one st w cs .state)
+  ready P st w [] t start k u a = all P t [] t (λ s. 0) st w (started P (λ s. 0) t st start) ((omega arith, omega arith), tt) u a
+  ready P st w (c ∷ cs) t start k u a =
+      all P t (c ∷ cs) (heard c .time) (λ s. 0) st w (started P (λ s. 0) (heard c .time) st start) ((omega arith, omega arith), k) u a
+
+  -- ---- the two theorems
+
+  pub always : (st : State) (w : W) (cs : List C) → EachAccepted (λ t. Unit {0}) heard one st w cs
+  always st w [] = tt
+  always st w (c ∷ cs) = (λ e. tt, always (one st w c .state) (one st w c .world) cs)
+
+  each-age : (last : ℕ → ℕ) (now t : ℕ) → Follows now t → (ps : List Place) → AllDated (λ x. Unit {0}) last now ps →
+      Each (λ (p : Place). p .held ≡ true → last (p .source) + age (tickAt t) (p .tick) ≡ t) ps
+  each-age last now t follows [] d = tt
+  each-age last now t follows (p ∷ ps) d = (λ h. age-is (λ x. Unit {0}) last now t follows p (d .0 h), each-age last now t follows ps (d .1))
+
+  pub true-ages : TrueAges heard one
+  true-ages st w cs t start k u =
+      let r = ready (λ x. Unit {0}) st w cs t start k u (always st w cs) in
+      each-age (λ s. lastFrom heard one s 0 st w cs) (r .now) t (r .follows) (runCalls one st w cs .state .places) (r .left .dated)
+
+  all-free : (last : ℕ → ℕ) (now t : ℕ) → Follows now t → (ps : List Place) → AllDated (FarBefore t) last now ps →
+      freeCount (dropDue (tickAt t) ps) ≡ length ps
+  unfolding dropDue
+  all-free last now t follows [] d = refl
+  all-free last now t follows (p ∷ ps) d =
+      by-due (tickAt t) p
+      (λ e q. rw (q, all-free last now t follows ps (d .1)) (omega arith))
+      (λ e q. rw (q, free e, all-free last now t follows ps (d .1)) (omega arith))
+    where
+      free : isDue (tickAt t) p ≡ false → p .held ≡ false
+      free e =
+          by-test (p .held)
+          (λ h. let x = d .0 h in
+          clash (sym (due-old (FarBefore t) last now t follows p h x ∙ lt-ltb (last (p .source) + 3000) t (omega (arith, x .kept))) ∙ e))
+          (λ h. h)
+
+  pub eight-free : EightFree heard one
+  eight-free st w cs t start k u a =
+      let r = ready (FarBefore t) st w cs t start k u a in
+      all-free (λ s. lastFrom heard one s 0 st w cs) (r .now) t (r .follows) (runCalls one st w cs .state .places) (r .left .dated) ∙ r .left .sized .eight
+
+pub join-aging : JoinAging
+join-aging alias = (
+  true-ages (λ (c : Timed). c) stateRefused keep alias (λ st ds c. handleInput stateRefused keep alias st ds (c .time) (c .input)) (λ st ds c h. refl),
+  eight-free (λ (c : Timed). c) stateRefused keep alias (λ st ds c. handleInput stateRefused keep alias st ds (c .time) (c .input)) (λ st ds c h. refl),
+)

@@ -1,0 +1,97 @@
+-- C-14 of document 02: that the wrapping age is the true age, and that "once frames stop being accepted, the first such
+-- call more than 3,000 ticks after the last accepted one has eight free places before its frame", over any way to
+-- handle a call. C is a call, W what a datagram may change, A the answer to a datagram, H the caller's errors.
+use Prim.Native.Nat.{ℕ, _+_, _<_}
+use mathlib.Core.Path.{_≡_}
+use mathlib.Core.Bool.{Bool, true, false, cond, _&&_}
+use mathlib.Core.List.{List, [], _∷_, _++_}
+use lib.Dec.{eqb}
+use Rattle.can_frame.specs.Frame.{sourceOf}
+use Rattle.rx_spec.specs.Place.{Place}
+use Rattle.rx_spec.specs.Ticks.{tickAt, age}
+use Rattle.rx_spec.specs.Times.{Input, frameInput, loneTick, Timed, Timely}
+use Rattle.rx_spec.specs.Reception.{State, atTick}
+use Rattle.rx_spec.specs.Order.{CallAnswer, callerError, ignoredFrame, nothing, transportRefusal, handled, FrameResult, handleInput, runCalls, Fresh, Each, timesOf, stateRefused, keep}
+
+-- ---- calls that are accepted, and calls that are not refused
+
+-- Whether the call is refused because of an error of the caller, by its answer.
+abbrev pub isCallerError : {H A : Type 0} → CallAnswer H A → Bool
+isCallerError (callerError error) = true
+isCallerError ignoredFrame = false
+isCallerError nothing = false
+isCallerError (transportRefusal code) = false
+isCallerError (handled a) = false
+
+-- Whether a call brings a frame that is accepted: one that is joined or swallowed, so that it has no answer, or
+-- finishes a datagram. An ignored frame, a transport refusal and an error of the caller accept nothing, and a lone tick
+-- brings no frame.
+abbrev pub acceptsFrame : {H A : Type 0} → Input → CallAnswer H A → Bool
+acceptsFrame loneTick a = false
+acceptsFrame (frameInput f) (callerError error) = false
+acceptsFrame (frameInput f) ignoredFrame = false
+acceptsFrame (frameInput f) nothing = true
+acceptsFrame (frameInput f) (transportRefusal code) = false
+acceptsFrame (frameInput f) (handled a) = true
+
+-- The calls cs, each made on what the one before left, are such that "no house number refuses" them.
+abbrev pub Unrefused : {C H W A : Type 0} → (State → W → C → FrameResult H W A) → State → W → List C → Type 0
+Unrefused one st w [] = Unit {0}
+Unrefused one st w (c ∷ cs) = let r = one st w c in (isCallerError (r .answer) ≡ false) × Unrefused one (r .state) (r .world) cs
+
+-- ---- the wrapping age is the true age
+
+-- Whether a call accepts a frame of the source s.
+abbrev pub acceptsFrom : {H A : Type 0} → ℕ → Input → CallAnswer H A → Bool
+acceptsFrom s loneTick a = false
+acceptsFrom s (frameInput f) a = eqb (sourceOf (f .header)) s && acceptsFrame (frameInput f) a
+
+-- The time of the last of the calls cs that accepted a frame of s: where there is none, `before`.
+abbrev pub lastFrom : {C H W A : Type 0} → (C → Timed) → (State → W → C → FrameResult H W A) → ℕ → ℕ → State → W → List C → ℕ
+lastFrom heard one s before st w [] = before
+lastFrom heard one s before st w (c ∷ cs) =
+    let r = one st w c in
+    lastFrom heard one s (cond (acceptsFrom s (heard c .input) (r .answer)) (heard c .time) before) (r .state) (r .world) cs
+
+-- From a state with nothing unfinished on: of each place that is held after the calls cs, the age that a call at the
+-- time t reckons is the time since its source's last accepted frame, though that age is the difference of two ticks of
+-- 16 bits.
+abbrev pub TrueAges : {C H W A : Type 0} → (C → Timed) → (State → W → C → FrameResult H W A) → Type 0
+TrueAges {C} {H} {W} heard one =
+    (st : State) (w : W) (cs : List C) (t : ℕ) → Fresh st → Timely (timesOf heard cs ++ t ∷ []) → Unrefused one st w cs
+    → Each (λ (p : Place). p .held ≡ true → lastFrom heard one (p .source) 0 st w cs + age (tickAt t) (p .tick) ≡ t) (runCalls one st w cs .state .places)
+
+-- ---- eight free places
+
+-- The time x is more than 3,000 ticks before the time t.
+abbrev pub FarBefore : ℕ → ℕ → Type 0
+FarBefore t x = x + 3000 < t
+
+-- P of the time of each of the calls cs that accepts a frame.
+abbrev pub EachAccepted : {C H W A : Type 0} → (ℕ → Type 0) → (C → Timed) → (State → W → C → FrameResult H W A) → State → W → List C → Type 0
+EachAccepted P heard one st w [] = Unit {0}
+EachAccepted P heard one st w (c ∷ cs) =
+    let r = one st w c in
+    (acceptsFrame (heard c .input) (r .answer) ≡ true → P (heard c .time)) × EachAccepted P heard one (r .state) (r .world) cs
+
+-- How many places are free.
+abbrev pub freeCount : List Place → ℕ
+freeCount [] = 0
+freeCount (p ∷ ps) = cond (p .held) 0 1 + freeCount ps
+
+-- After the calls cs, of which each that accepts a frame is more than 3,000 ticks before the time t, a call at t has
+-- eight free places before its frame: whatever tools sent, however many of their frames were refused or ignored, and
+-- whatever lone ticks came in between.
+abbrev pub EightFree : {C H W A : Type 0} → (C → Timed) → (State → W → C → FrameResult H W A) → Type 0
+EightFree {C} {H} {W} heard one =
+    (st : State) (w : W) (cs : List C) (t : ℕ) → Fresh st → Timely (timesOf heard cs ++ t ∷ []) → Unrefused one st w cs
+    → EachAccepted (FarBefore t) heard one st w cs → freeCount (atTick (tickAt t) (runCalls one st w cs .state) .places) ≡ 8
+
+-- ---- joining by itself
+
+-- Both, of joining with each finished datagram kept as it is.
+abbrev pub JoinAging : Type 0
+JoinAging =
+    (alias : ℕ)
+    → TrueAges (λ (c : Timed). c) (λ st ds (c : Timed). handleInput stateRefused keep alias st ds (c .time) (c .input))
+    × EightFree (λ (c : Timed). c) (λ st ds (c : Timed). handleInput stateRefused keep alias st ds (c .time) (c .input))

@@ -1,0 +1,155 @@
+-- Document 01, demand 3, with C-14 of document 02: the order statement, over any way to handle a whole datagram and any
+-- list of calls that each bring a time, and a frame or nothing more. W is what a datagram may change (memory and lock),
+-- A the answer to a datagram, H the caller's errors, and C a call: what it brings, with whatever else the caller lends
+-- for it, a reply buffer for one.
+use Prim.Native.Nat.{ℕ, zero, suc, _+_, _≤_}
+use mathlib.Core.Path.{_≡_}
+use mathlib.Core.Bool.{cond}
+use mathlib.Core.List.{List, [], _∷_, _++_, map}
+use lib.ListN.{length, take}
+use Rattle.can_frame.specs.Frame.{CanFrame}
+use Rattle.rx_spec.specs.Ticks.{tickAt}
+use Rattle.rx_spec.specs.Books.{Book, blank, isUnfinished, Event, ignored, noAnswer, refuse, finish, badState}
+use Rattle.rx_spec.specs.Times.{Input, frameInput, loneTick, Timed, Timely, bookOf, eventsOf}
+use Rattle.rx_spec.specs.Reception.{State, sound, atTick, receive, unfinishedFor}
+
+-- ---- a call handled
+
+-- The answer to a call: an error of the caller, which is "never sent"; none, to an ignored frame; none; a transport
+-- refusal with its code; or what the datagram that the frame finishes is answered with.
+pub data CallAnswer (H A : Type 0) : Type 0 where
+  callerError : H → CallAnswer H A
+  ignoredFrame : CallAnswer H A
+  nothing : CallAnswer H A
+  transportRefusal : ℕ → CallAnswer H A
+  handled : A → CallAnswer H A
+
+-- What is left after a call, and its answer.
+pub record FrameResult (H W A : Type 0) : Type 0 where
+  pub state : State
+  pub world : W
+  pub answer : CallAnswer H A
+
+abbrev pub frameResult : {H W A : Type 0} → State → W → CallAnswer H A → FrameResult H W A
+frameResult st w a = record { state = st; world = w; answer = a }
+
+-- What a frame brings about, answered: a finished datagram "is handled", and a state that B7 refuses gets the
+-- error b7.
+abbrev pub answerEvent : {H W A : Type 0} → H → (W → List ℕ → A × W) → State → W → Event → FrameResult H W A
+answerEvent b7 handle st w ignored = frameResult st w ignoredFrame
+answerEvent b7 handle st w noAnswer = frameResult st w nothing
+answerEvent b7 handle st w (refuse code) = frameResult st w (transportRefusal code)
+answerEvent b7 handle st w (finish d) = let x = handle w d in frameResult st (x .1) (handled (x .0))
+answerEvent b7 handle st w badState = frameResult st w (callerError b7)
+
+-- A frame at the tick `now`.
+unfoldable pub handleFrame : {H W A : Type 0} → H → (W → List ℕ → A × W) → ℕ → ℕ → State → W → CanFrame → FrameResult H W A
+handleFrame b7 handle alias now st w f = let j = receive alias now st f in answerEvent b7 handle (j .state) w (j .event)
+
+-- "one call brings a tick alone, testing only B7": what is due "is dropped without an answer".
+unfoldable pub handleTick : {H W A : Type 0} → H → ℕ → State → W → FrameResult H W A
+handleTick b7 now st w = cond (sound (st .places)) (frameResult (atTick now st) w nothing) (frameResult st w (callerError b7))
+
+-- What a call brings at a time, which comes to the board as a tick.
+abbrev pub handleInput : {H W A : Type 0} → H → (W → List ℕ → A × W) → ℕ → State → W → ℕ → Input → FrameResult H W A
+handleInput b7 handle alias st w t (frameInput f) = handleFrame b7 handle alias (tickAt t) st w f
+handleInput b7 handle alias st w t loneTick = handleTick b7 (tickAt t) st w
+
+-- ---- a list of calls
+
+-- What is left after the calls, and the answer to each.
+pub record CallsResult (H W A : Type 0) : Type 0 where
+  pub state : State
+  pub world : W
+  pub answers : List (CallAnswer H A)
+
+abbrev pub answerFirst : {H W A : Type 0} → CallAnswer H A → CallsResult H W A → CallsResult H W A
+answerFirst a r = record { state = r .state; world = r .world; answers = a ∷ r .answers }
+
+-- Each call made, by `one`, on what the call before left.
+abbrev pub runCalls : {C H W A : Type 0} → (State → W → C → FrameResult H W A) → State → W → List C → CallsResult H W A
+runCalls one st w [] = record { state = st; world = w; answers = [] }
+runCalls one st w (c ∷ cs) = let r = one st w c in answerFirst (r .answer) (runCalls one (r .state) (r .world) cs)
+
+-- ---- what the books call for
+
+-- The finished datagrams, in the order of their last frames.
+abbrev pub datagramsOf : List Event → List (List ℕ)
+datagramsOf [] = []
+datagramsOf (ignored ∷ es) = datagramsOf es
+datagramsOf (noAnswer ∷ es) = datagramsOf es
+datagramsOf (refuse code ∷ es) = datagramsOf es
+datagramsOf (finish d ∷ es) = d ∷ datagramsOf es
+datagramsOf (badState ∷ es) = datagramsOf es
+
+-- The answers: each finished datagram "handled whole" on what the earlier ones left. No book gives `badState`.
+abbrev pub answersTo : {H W A : Type 0} → H → (W → List ℕ → A × W) → W → List Event → List (CallAnswer H A)
+answersTo b7 handle w [] = []
+answersTo b7 handle w (ignored ∷ es) = ignoredFrame ∷ answersTo b7 handle w es
+answersTo b7 handle w (noAnswer ∷ es) = nothing ∷ answersTo b7 handle w es
+answersTo b7 handle w (refuse code ∷ es) = transportRefusal code ∷ answersTo b7 handle w es
+answersTo b7 handle w (finish d ∷ es) = let x = handle w d in handled (x .0) ∷ answersTo b7 handle (x .1) es
+answersTo b7 handle w (badState ∷ es) = callerError b7 ∷ answersTo b7 handle w es
+
+-- What the datagrams leave, handled one after the other.
+abbrev pub worldAfter : {W A : Type 0} → (W → List ℕ → A × W) → W → List (List ℕ) → W
+worldAfter handle w [] = w
+worldAfter handle w (d ∷ ds) = worldAfter handle (handle w d .1) ds
+
+-- How many of the aliases below n are unfinished by their books.
+unfoldable pub unfinishedBelow : ℕ → (ℕ → Book) → ℕ
+unfinishedBelow zero book = 0
+unfinishedBelow (suc n) book = cond (isUnfinished (book n)) 1 0 + unfinishedBelow n book
+
+-- ---- the statement
+
+-- The state that a list of calls starts from: eight places, 72 bytes for each, and nothing unfinished.
+pub record Fresh (st : State) : Type 0 where
+  pub eight : length (st .places) ≡ 8
+  pub bytes : length (st .pool) ≡ 576
+  pub nothing-unfinished : (s : ℕ) → unfinishedFor st s ≡ blank
+
+-- After each of the calls, with what it dropped, at most eight sources are unfinished by their books: an alias has 12
+-- bits, so it is below 4,096.
+abbrev pub AtMostEight : ℕ → List Timed → Type 0
+AtMostEight alias cs = (n : ℕ) → unfinishedBelow 4096 (λ s. bookOf alias (take n cs) s .book) ≤ 8
+
+-- P of each of a list.
+abbrev pub Each : {C : Type 0} → (C → Type 0) → List C → Type 0
+Each P [] = Unit {0}
+Each P (c ∷ cs) = P c × Each P cs
+
+-- The calls, made one after the other, give the answers that the books call for, by what the calls bring and when; they
+-- leave what the finished datagrams leave; and "what the state has" for each source is what its book holds.
+pub record InOrder {H W A : Type 0} (b7 : H) (handle : W → List ℕ → A × W) (alias : ℕ) (w : W) (cs : List Timed) (r : CallsResult H W A) : Type 0 where
+  pub answers : r .answers ≡ answersTo b7 handle w (eventsOf alias cs)
+  pub world : r .world ≡ worldAfter handle w (datagramsOf (eventsOf alias cs))
+  pub unfinished : (s : ℕ) → unfinishedFor (r .state) s ≡ bookOf alias cs s .book
+
+-- The times of the calls.
+abbrev pub timesOf : {C : Type 0} → (C → Timed) → List C → List ℕ
+timesOf heard cs = map (λ c. heard c .time) cs
+
+-- The order statement of a call `one`, of which a book may hear what `heard` gives: for calls that are `Fine` (their
+-- buffer is large enough, for one) and timely, in a world that is `Fit` (its memory has the size that the description
+-- asks for, for one).
+abbrev pub OrderStatement :
+    {C H W A : Type 0} → (C → Timed) → (C → Type 0) → (W → Type 0) → H → (W → List ℕ → A × W) → ℕ
+    → (State → W → C → FrameResult H W A) → Type 0
+OrderStatement {C} {H} {W} heard Fine Fit b7 handle alias one =
+    (st : State) (w : W) (cs : List C) → Fresh st → Fit w → Each Fine cs → Timely (timesOf heard cs) → AtMostEight alias (map heard cs)
+    → InOrder b7 handle alias w (map heard cs) (runCalls one st w cs)
+
+-- The order statement of joining by itself, with an error of its own for B7 and each finished datagram kept as it
+-- is: what is handed on, and in which order.
+pub data StateRefusal : Type 0 where
+  stateRefused : StateRefusal
+
+abbrev pub keep : List (List ℕ) → List ℕ → List ℕ × List (List ℕ)
+keep ds d = (d, ds ++ d ∷ [])
+
+abbrev pub JoinOrder : Type 0
+JoinOrder =
+    (alias : ℕ)
+    → OrderStatement (λ (c : Timed). c) (λ (c : Timed). Unit {0}) (λ (ds : List (List ℕ)). Unit {0}) stateRefused keep alias
+    (λ st ds c. handleInput stateRefused keep alias st ds (c .time) (c .input))

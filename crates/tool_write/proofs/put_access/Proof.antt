@@ -1,0 +1,35 @@
+-- `put_access` meets its contract.
+-- Assumes nothing.
+use mathlib.Core.Path.{ap}
+use native.Mathlib.Omega.{arith}
+use borrow.Author.Needs.{needs}
+use Rattle.tool_write_spec.specs.declared.CommandWritten.the-variants.{Length}
+use Rattle.tool_write_spec.proofs.WritingLaws.{head-small}
+use Rattle.tool_write.proofs.WriterLaws.{access-length, access-put}
+use Rattle.tool_write.proofs.put_access.Statement.{statement}
+use Rattle.tool_write.proofs.put_access.Tie as tie
+
+-- the points of the code, each from the one after it: the start, and where `form` is known
+abbrev start : tie.After-form-for → tie.Start
+start c = c .before .before .before
+
+abbrev form : tie.After-send → tie.After-form-for
+form c = c .before .before .before
+
+add-t14 : tie.Need-add-t14
+add-t14 c =
+    let f = form (c .before .before .before) in
+    let h = rw (f .form-for .ensures) at (c .head-length .ensures) in
+    omega (arith, head-small (start f .args .space))
+
+returns : tie.Need-returns
+returns c =
+    let s = c .before .before .before in
+    let f = form s .form-for .ensures in (
+      ap Length (access-length _ _ _ _ f (c .head-length .ensures)),
+      access-put _ _ _ _ f (omega arith) (omega arith) (s .before .before .control-bits .ensures .0) (s .send .ensures),
+    )
+
+pub put-access-spec : {M : Type 1} → statement M
+put-access-spec =
+    tie.close (tie.spec (λ c κs. search needs) (λ c κs. search needs) (λ c. search needs) (λ c κs. search needs) (λ c κs. search needs) add-t14 (λ c. search needs) returns)

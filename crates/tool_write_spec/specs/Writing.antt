@@ -1,0 +1,112 @@
+-- Document 02, C-12: "a writer for every command in document 01, in one form only".
+use Prim.Native.Nat.{ℕ, _+_, _≤_}
+use mathlib.Core.Path.{_≡_}
+use mathlib.Core.Bool.{Bool, true, cond, _&&_}
+use mathlib.Core.List.{List, [], _∷_, _++_}
+use lib.Dec.{leb, eqb}
+use lib.ListN.{length}
+use Rattle.buffer.specs.Buffer.{over}
+use Rattle.buffer.specs.BigEndian.{bytesOf}
+use Rattle.cmd_limits.specs.Limits.{countFits, bytesFit}
+use Rattle.cmd_fields.specs.Commands.{Pair, Request, read, write, writeMasked, options, information, reserve, updateComplete, formBits, spaceByte}
+use Rattle.cmd_fields.specs.declared.Form.{Form}
+use Rattle.cmd_fields.specs.declared.Form.the-variants.{NoSpace, Byte6, Fd, Fe, Ff}
+use Rattle.cmd_decode.specs.Decoding.{request, decode}
+use Rattle.tool_write_spec.specs.declared.CommandWritten.{CommandWritten}
+use Rattle.tool_write_spec.specs.declared.CommandWritten.the-variants.{OutOfRange, NoRoom, Length}
+
+-- ---- the one form
+
+-- "spaces 0xFD to 0xFF by the control bits, others by byte 6"
+abbrev pub formFor : ℕ → Form
+formFor space = cond (eqb space 0xFD) Fd (cond (eqb space 0xFE) Fe (cond (eqb space 0xFF) Ff Byte6))
+
+-- Byte 0, the command with its control bits, the four bytes of the address, and byte 6 where the control bits are zero.
+unfoldable pub opening : ℕ → ℕ → ℕ → List ℕ
+opening command space address = 0x20 ∷ (command + formBits (formFor space)) ∷ (bytesOf address ++ spaceByte (formFor space) space)
+
+-- "pairs (mask, data)" as bytes
+unfoldable pub pairBytes : List Pair → List ℕ
+pairBytes [] = []
+pairBytes (p ∷ more) = p .mask ∷ p .value ∷ pairBytes more
+
+-- The command of each request. The count of a read that is in range has its top bit, which is reserved, at zero.
+unfoldable pub commandFor : Request → List ℕ
+commandFor (read space address count) = opening 0x40 space address ++ (count ∷ [])
+commandFor (write space address bytes) = opening 0x00 space address ++ bytes
+commandFor (writeMasked space address pairs) = opening 0x08 space address ++ pairBytes pairs
+commandFor options = 0x20 ∷ 0x80 ∷ []
+commandFor (information space) = 0x20 ∷ 0x84 ∷ space ∷ []
+commandFor (reserve id) = 0x20 ∷ 0x88 ∷ id
+commandFor updateComplete = 0x20 ∷ 0xA8 ∷ []
+
+-- ---- the refusals
+
+-- Whether count and lengths are in range: a count of 1–64, "1–64 data bytes", "1–32 pairs", an ID of six bytes.
+unfoldable pub inRange : Request → Bool
+inRange (read space address count) = countFits count
+inRange (write space address bytes) = bytesFit (length bytes)
+inRange (writeMasked space address pairs) = leb 1 (length pairs) && leb (length pairs) 32
+inRange options = true
+inRange (information space) = true
+inRange (reserve id) = eqb (length id) 6
+inRange updateComplete = true
+
+-- What comes of writing a request: refused by W1 or W2, or its command.
+pub data Writing : Type 0 where
+  w1 : Writing
+  w2 : Writing
+  command : List ℕ → Writing
+
+-- "The writer refuses with W1 a count or length out of range, then with W2 a lent buffer under 72 bytes". `whole` says
+-- that the bytes handed in for pairs are pairs: an odd byte is none, and a length out of range.
+unfoldable pub writing : Bool → Request → ℕ → Writing
+writing whole q room = cond (whole && inRange q) (cond (leb 72 room) (command (commandFor q)) w2) w1
+
+-- ---- what holds of the one form
+
+-- The form that names the space of a request's command.
+abbrev pub formWritten : Request → Form
+formWritten (read space address count) = formFor space
+formWritten (write space address bytes) = formFor space
+formWritten (writeMasked space address pairs) = formFor space
+formWritten options = NoSpace
+formWritten (information space) = NoSpace
+formWritten (reserve id) = NoSpace
+formWritten updateComplete = NoSpace
+
+-- Of a request in range. Its numbers need no bound here: in the code they are bytes and numbers of 32 bits, and what is
+-- said holds of others too.
+pub record OneForm (q : Request) : Type 0 where
+  -- "the board's reading of the writer's bytes is that request"
+  pub readBack : decode (commandFor q) ≡ request (formWritten q) q
+  -- "unequal requests have unequal bytes"
+  pub unlike : (p : Request) → inRange p ≡ true → commandFor p ≡ commandFor q → p ≡ q
+  -- "Of the forms the board accepts for a request, none is shorter than the writer's."
+  pub shortest : (d : List ℕ) (form : Form) → decode d ≡ request form q → length (commandFor q) ≤ length d
+
+-- Whatever the board reads as a request is in range: the writer writes it.
+abbrev pub AllInRange : Type 0
+AllInRange = (d : List ℕ) (form : Form) (q : Request) → decode d ≡ request form q → inRange q ≡ true
+
+-- ---- what the code gives back
+
+-- The answer of the code: OutOfRange is W1, NoRoom is W2, and else the answer is the length of the command.
+abbrev pub commandAnswer : Writing → CommandWritten
+commandAnswer w1 = OutOfRange
+commandAnswer w2 = NoRoom
+commandAnswer (command bytes) = Length (length bytes)
+
+-- The lent buffer afterwards: "leaving it untouched, as it always leaves bytes past the command".
+abbrev pub commandBuffer : Writing → List ℕ → List ℕ
+commandBuffer w1 buffer = buffer
+commandBuffer w2 buffer = buffer
+commandBuffer (command bytes) buffer = over bytes buffer
+
+-- The answer r and the buffer `after` are what comes of writing q, over the buffer `before`; and what holds of its one
+-- form.
+pub record CommandWrites (whole : Bool) (q : Request) (r : CommandWritten) (before after : List ℕ) : Type 0 where
+  pub answer : r ≡ commandAnswer (writing whole q (length before))
+  pub buffer : after ≡ commandBuffer (writing whole q (length before)) before
+  pub oneForm : inRange q ≡ true → OneForm q
+  pub allInRange : AllInRange
