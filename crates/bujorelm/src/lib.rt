@@ -9,7 +9,7 @@ ghost use mathlib.Core.Path.{_≡_};
 ghost use mathlib.Core.List.{List, []};
 ghost use Prim.Native.Nat.{ℕ};
 ghost use Rattle.buffer.specs.Lent.{before, after};
-ghost use Rattle.tx_cut_spec.specs.Cutting.{cutFrames};
+ghost use Rattle.tx_cut_spec.specs.Cutting.{cutFrames, RefusedBy};
 ghost use Rattle.tx_transport.specs.Transport.{receivedOk, rejectedWith};
 ghost use Rattle.exec_spec.specs.Handling.{Contents};
 ghost use Rattle.gridconnect_print.specs.Line.{frameText, Printed};
@@ -111,7 +111,8 @@ pub extern "C" fn bujorelm_cut(
     tool: u16,
     frames: &mut [u8; 160],
 ) -> usize
-    ensures { λ r. ⌜ FramesMade (cutFrames (before datagram) tool board) frames r ⌝ }
+    ensures frames { λ r. ⌜ FramesMade (cutFrames (before datagram) tool board) frames r ⌝ }
+    ensures refusal { λ r. ⌜ RefusedBy (before datagram) tool board r ⌝ }
 {
     tx_transport::cut_reply(board, tool, datagram, frames)
 }

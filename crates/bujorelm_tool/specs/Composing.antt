@@ -1,18 +1,15 @@
 -- What a caller in C finds after a command was to be written: the numbers, and the lent buffer.
 use mathlib.Core.Path.{_≡_}
-use mathlib.Core.Bool.{Bool, true}
+use mathlib.Core.Bool.{Bool}
 use mathlib.Core.List.{List}
 use Prim.Native.Nat.{ℕ}
 use lib.ListN.{length}
 use Rattle.cmd_fields.specs.Commands.{Request}
-use Rattle.tool_write_spec.specs.Writing.{inRange, writing, OneForm, AllInRange, commandAnswer, commandBuffer}
+use Rattle.tool_write_spec.specs.Writing.{writing, commandAnswer, commandBuffer}
 use Rattle.tool_result_spec.specs.Numbers.{composedOf}
 use Rattle.tool_result_spec.specs.declared.Composed.{Composed}
 
--- The numbers r and the buffer `after` are what comes of writing q over the buffer `before`; and what holds of its one
--- form.
+-- The numbers r and the buffer `after` are what comes of writing q over the buffer `before`.
 pub record Composes (whole : Bool) (q : Request) (r : Composed) (before after : List ℕ) : Type 0 where
   pub answer : r ≡ composedOf (commandAnswer (writing whole q (length before)))
   pub buffer : after ≡ commandBuffer (writing whole q (length before)) before
-  pub oneForm : inRange q ≡ true → OneForm q
-  pub allInRange : AllInRange

@@ -15,14 +15,16 @@ ghost use Prim.Native.Nat.{_%_};
 ghost use lib.Dec.{eqb};
 ghost use lib.ListN.{length};
 ghost use Rattle.buffer.specs.Lent.{before, after};
-ghost use Rattle.can_frame.specs.Frame.{canFrame};
+ghost use Rattle.can_frame.specs.Frame.{canFrame, sourceOf, roleOf};
 ghost use Rattle.cmd_fields.specs.Commands.{read, write, writeMasked, options, information, reserve, updateComplete, pairsOf};
-ghost use Rattle.rx_spec.specs.Reception.{receive};
-ghost use Rattle.rx_spec.specs.PlaceBytes.{stateBefore};
-ghost use Rattle.rx_join_spec.specs.Joins.{Joins};
+ghost use Rattle.rx_spec.specs.Ticks.{dropDue};
+ghost use Rattle.rx_spec.specs.Reception.{placeOf, receive};
+ghost use Rattle.rx_spec.specs.PlaceBytes.{placesIn, stateBefore};
+ghost use Rattle.rx_join_spec.specs.Joins.{Joins, Lies};
 ghost use Rattle.tool_read_spec.specs.Finding.{findReply, Readings};
 ghost use Rattle.tool_read_ack.specs.Receipt.{readReceived, readRejection};
-ghost use Rattle.tool_result_spec.specs.Numbers.{acknowledgedOf, rejectionOf, fieldsOfReply, ToldApart};
+ghost use Rattle.tool_write_spec.specs.Writing.{EveryRequest};
+ghost use Rattle.tool_result_spec.specs.Numbers.{acknowledgedOf, rejectionOf, fieldsOfReply, replyRefusal, refusalIn, ToldApart};
 ghost use Rattle.tool_meets_board_spec.specs.Meeting.{HalvesMeet};
 ghost use Rattle.mask_combine.specs.Combining.{zeroOutside, putTogether, pairIs};
 ghost use Rattle.mask_effects_spec.specs.AnyOrder.{WritesAddUp};
@@ -56,7 +58,7 @@ pub extern "C" fn bujorelm_tool_version() -> u32
 }
 
 // Writes the command for a read of `count` bytes. The count comes as a wide number: one over 255 is out of range, and
-// not its low byte.
+// not its low byte. What holds of the writer's one form is demanded here once, for every request.
 #[no_mangle]
 pub extern "C" fn bujorelm_compose_read(
     space: u8,
@@ -64,7 +66,8 @@ pub extern "C" fn bujorelm_compose_read(
     count: usize,
     buffer: &mut [u8],
 ) -> Composed
-    ensures { λ r. ⌜ Composes true (read space address count) r (before buffer) (after buffer) ⌝ }
+    ensures composes { λ r. ⌜ Composes true (read space address count) r (before buffer) (after buffer) ⌝ }
+    ensures every_request { λ _. ⌜ EveryRequest ⌝ }
 {
     if 64 < count {
         return tool_result::of_written(CommandWritten::OutOfRange);
@@ -148,11 +151,12 @@ pub extern "C" fn bujorelm_read_rejected(content: &[u8]) -> RejectionFields
     tool_result::of_rejection(tool_read_ack::read_rejected(content))
 }
 
-// Reads a reply datagram. What is found is what the language of replies says; its numbers tell apart what is missing
-// and what is 0; and whatever the board answers is read as the board put it in.
+// Reads a reply datagram. What is found is what the language of replies says; W3 is kind 0 and no other; the numbers
+// tell apart what is missing and what is 0; and whatever the board answers is read as the board put it in.
 #[no_mangle]
 pub extern "C" fn bujorelm_read_reply(datagram: &[u8]) -> ReplyFields
     ensures fields { λ r. ⌜ r ≡ fieldsOfReply (findReply (before datagram)) ⌝ }
+    ensures refusal { λ r. ⌜ refusalIn r ≡ replyRefusal (findReply (before datagram)) ⌝ }
     ensures readings { λ _. ⌜ Readings ⌝ }
     ensures apart { λ _. ⌜ ToldApart ⌝ }
     ensures meets { λ _. ⌜ HalvesMeet ⌝ }
@@ -208,6 +212,9 @@ pub extern "C" fn bujorelm_join(
     ensures joins { λ r.
         ⌜ Joins (receive alias 0 (stateBefore places pool) (canFrame header (before payload))) (before payload)
         (outcomeIs r) (before places) (after places) (after pool) ⌝ }
+    ensures lies { λ r.
+        ⌜ Lies (roleOf alias header (length (before payload)))
+        (placeOf (sourceOf header) (dropDue 0 (placesIn (before places)))) (outcomeIs r) ⌝ }
     ensures numbers { λ r. ⌜ r ≡ joinedOf (outcomeIs r) ⌝ }
 {
     of_outcome(rx_join::join(pool, places, alias, 0, header, payload))

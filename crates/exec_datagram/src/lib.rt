@@ -2,6 +2,7 @@
 use cmd_decode::Decoded;
 use reply_answer::Answer;
 ghost use Rattle.buffer.specs.Lent.{before, after};
+ghost use Rattle.exec_spec.specs.Performing.{AllAnnounced};
 ghost use Rattle.exec_spec.specs.Handling.{handle, Performs, HandleBounds};
 ghost use Rattle.exec_spec.specs.LentBoard.{boardOf, contentsBefore};
 
@@ -24,6 +25,7 @@ pub fn handle(
         ⌜ Performs (handle (boardOf alias «write_lengths» spaces flash) (contentsBefore memory lock) (before datagram))
         r (before out) (after out) (after memory) (after lock) ⌝ }
     ensures bounds { λ _. ⌜ HandleBounds ⌝ }
+    ensures announced { λ _. ⌜ AllAnnounced ⌝ }
 {
     let decoded = cmd_decode::decode(datagram);
     match decoded {

@@ -80,6 +80,10 @@ Announced (information space) r = transportOf (answerOf r) ≡ okFlags 0x80
 Announced (reserve id) r = transportOf (answerOf r) ≡ okFlags 0x80
 Announced updateComplete r = r ≡ updateCompleted
 
+-- of every request
+abbrev pub AllAnnounced : Type 0
+AllAnnounced = (x : Fixed) (c : Contents) (form : Form) (q : Request) → Announced q (perform x c form q .result)
+
 -- ---- what the code gives back
 
 -- "The lock memory is six bytes", so many as the reply to 0x88 shows.

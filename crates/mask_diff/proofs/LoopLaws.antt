@@ -22,7 +22,7 @@ use Rattle.mask_diff_spec.proofs.ByteLaws.{same-byte, other-byte}
 use Rattle.mask_diff_spec.proofs.DifferenceLaws.{difference-length, difference-at, difference-drop, difference-take}
 use Rattle.mask_diff_spec.proofs.SearchLaws.{count-fits, count-most, pairs-length}
 use Rattle.mask_diff.specs.Changes.{Finds}
-use Rattle.mask_diff.specs.declared.NextChange.the-variants.{OutOfRange, NoRoom, NoChange, ChangeAt}
+use Rattle.mask_diff.specs.declared.NextChange.the-variants.{LengthsDiffer, BufferTooShort, NoChange, ChangeAt}
 
 module _ (old new : List ℕ) (size : length old ≡ length new) where
   abbrev e : List Pair
@@ -131,14 +131,14 @@ module _ (old new : List ℕ) (size : length old ≡ length new) where
 -- ---- the search
 
 module _ (old new : List ℕ) (from : ℕ) (pairs : List ℕ) where
-  pub find-w1 : (length old ≡ length new → ⊥) → Finds (nextChange old new from (length pairs)) OutOfRange pairs pairs
+  pub find-lengths : (length old ≡ length new → ⊥) → Finds (nextChange old new from (length pairs)) LengthsDiffer pairs pairs
   unfolding nextChange
-  find-w1 h = rw (ne-eqb (length old) (length new) h) (record { answer = refl; buffer = refl })
+  find-lengths h = rw (ne-eqb (length old) (length new) h) (record { answer = refl; buffer = refl })
 
   module _ (size : length old ≡ length new) where
-    pub find-w2 : length pairs < 64 → Finds (nextChange old new from (length pairs)) NoRoom pairs pairs
+    pub find-short : length pairs < 64 → Finds (nextChange old new from (length pairs)) BufferTooShort pairs pairs
     unfolding nextChange
-    find-w2 h = rw (eq-eqb (length old) (length new) size, lt-leb 64 (length pairs) h) (record { answer = refl; buffer = refl })
+    find-short h = rw (eq-eqb (length old) (length new) size, lt-leb 64 (length pairs) h) (record { answer = refl; buffer = refl })
 
     module _ (room : 64 ≤ length pairs) {start : ℕ} (first : start ≡ startFrom from (difference old new)) where
       pub find-none : length old ≤ start → Finds (nextChange old new from (length pairs)) NoChange pairs pairs

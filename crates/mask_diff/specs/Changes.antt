@@ -5,22 +5,22 @@ use Prim.Native.Nat.{ℕ}
 use lib.ListN.{length}
 use Rattle.buffer.specs.Buffer.{over}
 use Rattle.tool_write_spec.specs.Writing.{pairBytes}
-use Rattle.mask_diff_spec.specs.Differences.{Search, w1, w2, unchanged, change}
+use Rattle.mask_diff_spec.specs.Differences.{Search, lengthsDiffer, bufferTooShort, unchanged, change}
 use Rattle.mask_diff.specs.declared.NextChange.{NextChange}
-use Rattle.mask_diff.specs.declared.NextChange.the-variants.{OutOfRange, NoRoom, NoChange, ChangeAt}
+use Rattle.mask_diff.specs.declared.NextChange.the-variants.{LengthsDiffer, BufferTooShort, NoChange, ChangeAt}
 
--- The answer of the code: OutOfRange is W1, NoRoom is W2.
+-- The answer of the code.
 abbrev pub changeAnswer : Search → NextChange
-changeAnswer w1 = OutOfRange
-changeAnswer w2 = NoRoom
+changeAnswer lengthsDiffer = LengthsDiffer
+changeAnswer bufferTooShort = BufferTooShort
 changeAnswer unchanged = NoChange
 changeAnswer (change start pairs) = ChangeAt start (length pairs)
 
 -- The pairs, each as a mask and then its data, in front of the lent buffer: what stands behind them, and all where
 -- there is no change, stays.
 abbrev pub changeBuffer : Search → List ℕ → List ℕ
-changeBuffer w1 buffer = buffer
-changeBuffer w2 buffer = buffer
+changeBuffer lengthsDiffer buffer = buffer
+changeBuffer bufferTooShort buffer = buffer
 changeBuffer unchanged buffer = buffer
 changeBuffer (change start pairs) buffer = over (pairBytes pairs) buffer
 

@@ -20,18 +20,19 @@ const MOST_PAIRS: usize = 32;
 
 // The next masked write.
 pub enum NextChange {
-    // W1: the images differ in length.
-    OutOfRange,
-    // W2: the buffer has no room for 32 pairs.
-    NoRoom,
+    // Refused: the images differ in length.
+    LengthsDiffer,
+    // Refused: the buffer has no room for 32 pairs.
+    BufferTooShort,
     // No byte differs at or after the index.
     NoChange,
     // The index of its first byte, and the number of its pairs.
     ChangeAt { start: usize, count: usize },
 }
 
-// The next masked write as numbers for a caller in C: that of W1 or W2, or 0; whether there is a change; the index of
-// its first byte and the number of its pairs. A number that the case does not name is 0.
+// The next masked write as numbers for a caller in C: 1 for images that differ in length, 2 for a buffer that is too
+// short, or 0; whether there is a change; the index of its first byte and the number of its pairs. A number that the
+// case does not name is 0.
 #[repr(C)]
 pub struct ChangeFields {
     pub refusal: u32,
@@ -93,10 +94,10 @@ pub fn next_change(old: &[u8], new: &[u8], from: usize, pairs: &mut [u8]) -> Nex
     ensures updates { λ _. ⌜ AllUpdates ⌝ }
 {
     if old.len() != new.len() {
-        return NextChange::OutOfRange;
+        return NextChange::LengthsDiffer;
     }
     if pairs.len() < PAIRS_ROOM {
-        return NextChange::NoRoom;
+        return NextChange::BufferTooShort;
     }
     let start = first_change(old, new, from);
     if old.len() <= start {
@@ -127,10 +128,10 @@ pub fn numbers_of(next: NextChange) -> ChangeFields
     ensures { λ r. ⌜ (r ≡ numbersOf next) × (changeIs r ≡ next) ⌝ }
 {
     match next {
-        NextChange::OutOfRange => {
+        NextChange::LengthsDiffer => {
             return fields(1, false, 0, 0);
         }
-        NextChange::NoRoom => {
+        NextChange::BufferTooShort => {
             return fields(2, false, 0, 0);
         }
         NextChange::NoChange => {

@@ -6,7 +6,7 @@ use mathlib.Core.List.{List, [], _∷_, _++_}
 use lib.ListN.{replicate}
 use Rattle.cmd_fields.specs.Commands.{pair}
 use Rattle.mask_combine.specs.Combining.{untouched, keepsAll}
-use Rattle.mask_diff_spec.specs.Differences.{difference, beforeFirst, upToLast, w1, w2, unchanged, change, nextChange}
+use Rattle.mask_diff_spec.specs.Differences.{difference, beforeFirst, upToLast, lengthsDiffer, bufferTooShort, unchanged, change, nextChange}
 use Rattle.mask_diff_spec.specs.Writes.{writeAt, writesFrom, allWrites}
 
 -- two lamps of one byte, one lit and one put out; the byte between two changes
@@ -23,12 +23,12 @@ none-at-all : nextChange (0x07 ∷ []) (0x07 ∷ []) 0 64 ≡ unchanged
 unfolding nextChange difference beforeFirst upToLast
 none-at-all = refl
 
--- W1, before W2
-lengths-differ : nextChange (0x00 ∷ []) [] 0 0 ≡ w1
+-- the lengths are tested before the buffer
+lengths-differ : nextChange (0x00 ∷ []) [] 0 0 ≡ lengthsDiffer
 unfolding nextChange
 lengths-differ = refl
 
-no-room : nextChange [] [] 0 63 ≡ w2
+no-room : nextChange [] [] 0 63 ≡ bufferTooShort
 unfolding nextChange
 no-room = refl
 

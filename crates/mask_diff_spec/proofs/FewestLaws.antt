@@ -9,11 +9,11 @@ use lib.Dec.{leb, ltb}
 use lib.ListN.{length, take, drop, getD, List·getD-eq-default}
 use lib.Seq.{getD-take, getD-drop}
 use borrow.Author.Tests.{ltb-true, ltb-false, leb-true, leb-false}
+use Rattle.buffer.specs.Buffer.{Each}
 use Rattle.buffer.proofs.Choice.{clash, and-left, and-right, or-left, or-right}
 use Rattle.cmd_fields.specs.Commands.{Pair}
 use Rattle.exec_store.specs.Storing.{storeMasked, OnlyWithin}
 use Rattle.exec_store.proofs.Laws.{pairs-within}
-use Rattle.rx_spec.specs.Order.{Each}
 use Rattle.mask_combine.specs.Combining.{untouched}
 use Rattle.mask_diff_spec.specs.Differences.{touches, difference, startFrom, countAt, pairsAt}
 use Rattle.mask_diff_spec.specs.Writes.{ImageWrite, writeAt, writesFrom, storeAll, AllUpdates}

@@ -9,8 +9,8 @@ use lib.Dec.{ltb, eqb}
 use lib.ListN.{length, take, drop, getD, length-take, length-drop}
 use lib.Seq.{drop-cons, getD-drop, length-take-le}
 use borrow.Author.Tests.{lt-ltb, ltb-true, eqb-true}
+use Rattle.buffer.specs.Buffer.{Each}
 use Rattle.buffer.proofs.Choice.{clash, cond-elim}
-use Rattle.rx_spec.specs.Order.{Each}
 use Rattle.cmd_fields.specs.Commands.{Pair}
 use Rattle.mask_combine.specs.Combining.{untouched}
 use Rattle.mask_diff_spec.specs.Differences.{touches, beforeFirst, upToLast, startFrom, countAt, pairsAt}

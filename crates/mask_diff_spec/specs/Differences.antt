@@ -49,9 +49,12 @@ pairsAt start e = take (countAt start e) (drop start e)
 
 -- ---- the refusals, and what is found
 
+-- C-16 names no refusal, and no number of the papers is given here: both are this search's own.
 pub data Search : Type 0 where
-  w1 : Search
-  w2 : Search
+  -- the images differ in length
+  lengthsDiffer : Search
+  -- the buffer for the pairs has no room for 32 of them
+  bufferTooShort : Search
   -- no byte differs at or after the index
   unchanged : Search
   -- a masked write, from an index of the images on
@@ -60,7 +63,7 @@ pub data Search : Type 0 where
 abbrev pub foundChange : ℕ → List Pair → Search
 foundChange start e = cond (ltb start (length e)) (change start (pairsAt start e)) unchanged
 
--- W1: images of different length. Then W2: no room for 32 pairs.
+-- Images of different length are refused first, and then a buffer of fewer than 64 bytes, which 32 pairs take.
 unfoldable pub nextChange : List ℕ → List ℕ → ℕ → ℕ → Search
 nextChange old new from room =
-    cond (eqb (length old) (length new)) (cond (leb 64 room) (foundChange (startFrom from (difference old new)) (difference old new)) w2) w1
+    cond (eqb (length old) (length new)) (cond (leb 64 room) (foundChange (startFrom from (difference old new)) (difference old new)) bufferTooShort) lengthsDiffer

@@ -7,10 +7,9 @@ use mathlib.Core.List.{List, [], _∷_}
 use lib.Bits.{bitAnd}
 use lib.Dec.{ltb}
 use lib.ListN.{length, getD}
-use Rattle.buffer.specs.Buffer.{AllBytes}
+use Rattle.buffer.specs.Buffer.{AllBytes, Each}
 use Rattle.cmd_fields.specs.Commands.{Pair}
 use Rattle.exec_store.specs.Storing.{masked, storeMasked}
-use Rattle.rx_spec.specs.Order.{Each}
 use Rattle.mask_combine.specs.Combining.{untouched, Effect}
 use Rattle.mask_diff_spec.specs.Differences.{difference, startFrom, pairsAt}
 

@@ -6,7 +6,7 @@ use mathlib.Core.Bool.{true, false}
 use mathlib.Core.List.{List, [], _∷_, _++_, map}
 use native.Mathlib.Omega.{arith}
 use lib.ListN.{length, length-map}
-use Rattle.buffer.specs.Buffer.{AllBytes}
+use Rattle.buffer.specs.Buffer.{AllBytes, Each}
 use Rattle.buffer.proofs.Choice.{clash}
 use Rattle.call_error.specs.CallErrors.{descriptionCheck}
 use Rattle.call_error.specs.declared.Checked.the-variants.{Passed}
@@ -25,7 +25,6 @@ use Rattle.exec_store.proofs.Laws.{masked-length}
 use Rattle.exec_spec.specs.Access.{writeResult, memoryAfter}
 use Rattle.exec_spec.specs.Performing.{perform}
 use Rattle.exec_spec.specs.Handling.{Fixed, Contents, contents, answerReading, handle}
-use Rattle.rx_spec.specs.Order.{Each}
 use Rattle.mask_combine.specs.Combining.{plain, zeroOutside, together, keepsAll, AllProper, Effect}
 use Rattle.mask_combine.proofs.PairLaws.{mask-small}
 use Rattle.mask_combine.proofs.ListLaws.{add-up}

@@ -6,7 +6,7 @@ use mathlib.Core.Bool.{true}
 use mathlib.Core.List.{List, [], _∷_, _++_}
 use lib.Bits.{bitAnd}
 use lib.ListN.{length, getD}
-use Rattle.buffer.specs.Buffer.{AllBytes}
+use Rattle.buffer.specs.Buffer.{AllBytes, Each}
 use Rattle.buffer.proofs.Choice.{clash}
 use Rattle.call_error.specs.CallErrors.{descriptionCheck}
 use Rattle.call_error.specs.declared.Checked.the-variants.{Passed}
@@ -17,7 +17,6 @@ use Rattle.reply_answer.specs.Answers.{Result}
 use Rattle.exec_store.specs.Storing.{masked}
 use Rattle.exec_spec.specs.Performing.{perform}
 use Rattle.exec_spec.specs.Handling.{Fixed, Contents, contents, answerReading, handle}
-use Rattle.rx_spec.specs.Order.{Each}
 use Rattle.mask_combine.specs.Combining.{untouched, together, keepsAll, NoCommonBit}
 use Rattle.mask_combine.proofs.ListLaws.{add-up}
 use Rattle.mask_effects_spec.specs.Effects.{requestWrites, readingWrites, writtenBy, isPairs, isWrite, isAcceptedWrite, effectOf, effectOfAll, contentsAfterAll, Content}

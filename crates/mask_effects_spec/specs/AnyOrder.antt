@@ -4,11 +4,10 @@ use Prim.Native.Nat.{ℕ}
 use mathlib.Core.Path.{_≡_}
 use mathlib.Core.Bool.{true}
 use mathlib.Core.List.{List, [], _∷_, _++_}
-use Rattle.buffer.specs.Buffer.{AllBytes}
+use Rattle.buffer.specs.Buffer.{AllBytes, Each}
 use Rattle.space_table.specs.declared.Space.{Space}
 use Rattle.reply_answer.specs.Answers.{Result}
 use Rattle.exec_spec.specs.Handling.{Fixed, Contents, handle}
-use Rattle.rx_spec.specs.Order.{Each}
 use Rattle.mask_combine.specs.Combining.{NoCommonBit, PairsAddUp}
 use Rattle.mask_effects_spec.specs.Effects.{isAcceptedWrite, isWrite, effectOf, contentsAfterAll, AcceptedWrites, Content, AddsUp, OnGoodBoards}
 

@@ -4,7 +4,7 @@ use mathlib.Core.Path.{_≡_}
 use mathlib.Core.Bool.{Bool, true, false}
 use mathlib.Core.List.{List, [], _∷_, _++_, map}
 use lib.ListN.{length}
-use Rattle.buffer.specs.Buffer.{AllBytes}
+use Rattle.buffer.specs.Buffer.{AllBytes, Each}
 use Rattle.space_table.specs.declared.Space.{Space}
 use Rattle.space_lookup.specs.Description.{findSpace}
 use Rattle.call_error.specs.CallErrors.{descriptionCheck}
@@ -17,7 +17,6 @@ use Rattle.space_reach.specs.declared.Access.the-variants.{Fails, Reaches}
 use Rattle.reply_answer.specs.Answers.{answerOf, transportOf, okFlags}
 use Rattle.exec_store.specs.Storing.{masked}
 use Rattle.exec_spec.specs.Handling.{Fixed, Contents, handle}
-use Rattle.rx_spec.specs.Order.{Each}
 use Rattle.mask_combine.specs.Combining.{plain, zeroOutside, together, keepsAll, Effect}
 
 -- ---- what a datagram writes

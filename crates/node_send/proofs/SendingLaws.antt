@@ -122,5 +122,4 @@ module _ (x : Fixed) where
       ap (λ (rest : List (List Frame)). sentOf (x .alias) (heardOf k .input) (r .answer) ∷ rest) (sent-calls (r .state) (r .world) ks)
 
   pub bus-order : BusOrder x
-  bus-order m g st c ks fresh size fine timely few =
-      sent-calls st c ks ∙ ap (sentTo (x .alias) (map heardOf ks)) (node-theorems x .order m g st c ks fresh size fine timely few .answers)
+  bus-order st c ks asked = sent-calls st c ks ∙ ap (sentTo (x .alias) (map heardOf ks)) (node-theorems x .order st c ks asked .answers)

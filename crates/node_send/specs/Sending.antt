@@ -6,17 +6,15 @@ use mathlib.Core.List.{List, [], _∷_, _++_, map}
 use lib.ListN.{length, take}
 use Rattle.buffer.specs.Buffer.{over}
 use Rattle.buffer.specs.Lent.{LentBytes, before, after}
-use Rattle.call_error.specs.CallErrors.{descriptionCheck}
 use Rattle.call_error.specs.declared.CallError.{CallError}
 use Rattle.call_error.specs.declared.CallError.the-variants.{B7BadReceptionState}
-use Rattle.call_error.specs.declared.Checked.the-variants.{Passed}
 use Rattle.can_frame.specs.declared.Frame.{Frame}
 use Rattle.can_frame.specs.Frame.{sourceOf}
 use Rattle.can_frame_bytes.specs.Layout.{framesBytes}
 use Rattle.rx_spec.specs.Reception.{State}
-use Rattle.rx_spec.specs.Times.{Input, frameInput, loneTick, Timed, Timely, eventsOf}
+use Rattle.rx_spec.specs.Times.{Input, frameInput, loneTick, Timed, eventsOf}
 use Rattle.rx_spec.specs.Order as order
-use Rattle.rx_spec.specs.Order.{callerError, ignoredFrame, nothing, transportRefusal, handled, answersTo, Fresh, AtMostEight, Each, timesOf}
+use Rattle.rx_spec.specs.Order.{callerError, ignoredFrame, nothing, transportRefusal, handled, answersTo}
 use Rattle.tx_cut_spec.specs.Cutting.{cutFrames}
 use Rattle.tx_transport.specs.Transport.{receivedOk, rejectedWith}
 use Rattle.reply_answer.specs.Answers.{Result, datagramRejected, written, updateCompleted, receivedOkReply, Transport, okFlags, rejectedCode, transportOf}
@@ -24,7 +22,7 @@ use Rattle.reply_answer.specs.declared.Answer.{Answer}
 use Rattle.reply_answer.specs.declared.Answer.the-variants.{Rejected, Written, UpdateComplete, Replied}
 use Rattle.exec_spec.specs.Handling.{Fixed, Contents}
 use Rattle.node_spec.specs.FrameCall.{handler, frameAnswerOf, lentFrameCall, FrameEnds}
-use Rattle.node_spec.specs.NodeOrder.{Call, heardOf, BufferFits, makeCall}
+use Rattle.node_spec.specs.NodeOrder.{Call, heardOf, makeCall, OrderlyCalls}
 use Rattle.node_spec.specs.declared.FrameAnswer.{FrameAnswer}
 use Rattle.node_spec.specs.declared.FrameAnswer.the-variants.{Refused, Ignored, Nothing, TransportRefusal, Answered}
 
@@ -102,9 +100,7 @@ sentTo board (c ∷ cs) (a ∷ answers) = sentOf board (c .input) a ∷ sentTo b
 -- source, the frames of the answers that the books call for with each finished datagram "handled whole".
 abbrev pub BusOrder : Fixed → Type 0
 BusOrder x =
-    (m : ℕ) → descriptionCheck (x .alias) (x .spaces) (length (x .flash)) m ≡ Passed
-    → (st : State) (c : Contents) (ks : List Call) → Fresh st → length (c .memory) ≡ m → Each BufferFits ks → Timely (timesOf heardOf ks)
-    → AtMostEight (x .alias) (map heardOf ks)
+    (st : State) (c : Contents) (ks : List Call) → OrderlyCalls x st c ks
     → sentInCalls x st c ks ≡ sentTo (x .alias) (map heardOf ks) (answersTo B7BadReceptionState (handler x) c (eventsOf (x .alias) (map heardOf ks)))
 
 -- ---- what the code gives back

@@ -4,6 +4,7 @@ use Prim.Native.Nat.{ℕ, _≤_}
 use mathlib.Core.Path.{_≡_, refl, sym, ap, _∙_}
 use mathlib.Core.Bool.{Bool, true, false}
 use mathlib.Core.List.{List}
+use native.Mathlib.Omega.{arith}
 use lib.ListN.{length}
 use borrow.Author.Tests.{le-ltb}
 use Rattle.call_error.specs.CallErrors.{descriptionCheck}
@@ -14,12 +15,15 @@ use Rattle.call_error.specs.declared.Checked.the-variants.{Passed, Failed}
 use Rattle.can_frame.specs.Frame.{CanFrame}
 use Rattle.rx_spec.specs.Reception.{State}
 use Rattle.rx_spec.specs.Ticks.{tickAt}
+use Rattle.rx_spec.specs.Times.{frameInput, loneTick}
 use Rattle.rx_spec.specs.Order.{FrameResult, frameResult, callerError, answerEvent, handleFrame, handleInput}
 use Rattle.rx_spec.specs.Aging.{isCallerError}
 use Rattle.rx_spec.specs.Books.{Event, ignored, noAnswer, refuse, finish, badState}
 use Rattle.rx_spec.proofs.Order.{order}
-use Rattle.rx_spec.proofs.Aging.{true-ages, eight-free}
-use Rattle.rx_spec.proofs.Swallowing.{one-rejection}
+use Rattle.rx_spec.proofs.InputLaws.{refused-keeps}
+use Rattle.rx_spec.proofs.Aging.{true-ages}
+use Rattle.rx_spec.proofs.FreePlaces.{eight-free}
+use Rattle.rx_spec.proofs.OneSource.{one-source}
 use Rattle.buffer.proofs.Choice.{clash}
 use Rattle.exec_spec.specs.Access.{Changes}
 use Rattle.exec_spec.specs.Handling.{Fixed, Contents, handle, Performs}
@@ -31,7 +35,7 @@ use Rattle.reply_answer.specs.declared.Answer.{Answer}
 use Rattle.reply_answer.specs.declared.Answer.the-variants.{Rejected, Written, UpdateComplete, Replied}
 use Rattle.node_spec.specs.FrameCall.{handler, frameCall, Answers, SmallFrame, FrameChanges}
 use Rattle.node_spec.specs.TickCall.{tickAnswer}
-use Rattle.node_spec.specs.NodeOrder.{Call, frameAt, loneTickAt, heardOf, BufferFits, makeCall, NodeOrder, NodeAging, NodeRejection, NodeTheorems}
+use Rattle.node_spec.specs.NodeOrder.{Call, frameAt, loneTickAt, heardOf, BufferFits, makeCall, MemoryFits, NodeOrder, OwnCall, makeOwn, NodeAging, NodeSource, NodeTheorems}
 use Rattle.node_spec.specs.declared.FrameAnswer.{FrameAnswer}
 use Rattle.node_spec.specs.declared.FrameAnswer.the-variants.{Answered}
 
@@ -103,13 +107,19 @@ unfolding datagramCheck
 check-passed x memory buffer g h = rw (g, le-ltb (length buffer) 72 h)
 
 -- a call with a buffer that is large enough is not refused
-fine-call : (x : Fixed) (m : ℕ) → descriptionCheck (x .alias) (x .spaces) (length (x .flash)) m ≡ Passed → (st : State) (c : Contents) (k : Call) →
-    length (c .memory) ≡ m → BufferFits k → makeCall x st c k ≡ handleInput B7BadReceptionState (handler x) (x .alias) st c (heardOf k .time) (heardOf k .input)
-fine-call x m g st c (frameAt t f buffer) e h = call-passed x buffer (tickAt t) st c f (check-passed x (c .memory) buffer (rw e g) h)
-fine-call x m g st c (loneTickAt t) e h = refl
+fine-call : (x : Fixed) (st : State) (c : Contents) (k : Call) → MemoryFits x c → BufferFits k →
+    makeCall x st c k ≡ handleInput B7BadReceptionState (handler x) (x .alias) st c (heardOf k .time) (heardOf k .input)
+fine-call x st c (frameAt t f buffer) g h = call-passed x buffer (tickAt t) st c f (check-passed x (c .memory) buffer g (omega (arith, h)))
+fine-call x st c (loneTickAt t) g h = refl
+
+-- memory keeps its size, and with it the description its fitness
+keeps-fit : (x : Fixed) (c : Contents) (d : List ℕ) → MemoryFits x c → MemoryFits x (handle x c d .contents)
+keeps-fit x c d g =
+    let passed : descriptionCheck (x .alias) (x .spaces) (length (x .flash)) (length (c .memory)) ≡ Passed = cc in
+    rw (handle-keeps x c d) passed
 
 node-order : (x : Fixed) → NodeOrder x
-node-order x m g = order heardOf BufferFits (λ c. length (c .memory) ≡ m) B7BadReceptionState (handler x) (λ c d e. handle-keeps x c d ∙ e) (x .alias) (makeCall x) (fine-call x m g)
+node-order x = order heardOf BufferFits (MemoryFits x) B7BadReceptionState (handler x) (keeps-fit x) (x .alias) (makeCall x) (fine-call x)
 
 -- ---- unfinished datagrams that grow old
 
@@ -124,17 +134,32 @@ unrefused-call x st c (frameAt t f buffer) h = go (datagramCheck x (c .memory) b
         clash (ap (λ (r : FrameResult CallError Contents Result). isCallerError (r .answer)) (sym (call-refused x buffer (tickAt t) st c f e)) ∙ h)
 unrefused-call x st c (loneTickAt t) h = refl
 
+-- one that is refused leaves the reception state
+refused-call : (x : Fixed) (st : State) (c : Contents) (k : Call) → isCallerError (makeCall x st c k .answer) ≡ true → makeCall x st c k .state ≡ st
+refused-call x st c (frameAt t f buffer) h = go (datagramCheck x (c .memory) buffer) refl
+  where
+    go : (checked : Checked) → datagramCheck x (c .memory) buffer ≡ checked → frameCall x buffer (tickAt t) st c f .state ≡ st
+    go Passed e =
+        let q = call-passed x buffer (tickAt t) st c f e in
+        ap (λ (r : FrameResult CallError Contents Result). r .state) q
+        ∙ refused-keeps B7BadReceptionState (handler x) (x .alias) st c t (frameInput f)
+        (ap (λ (r : FrameResult CallError Contents Result). isCallerError (r .answer)) (sym q) ∙ h)
+    go (Failed error) e = ap (λ (r : FrameResult CallError Contents Result). r .state) (call-refused x buffer (tickAt t) st c f e)
+refused-call x st c (loneTickAt t) h = refused-keeps B7BadReceptionState (handler x) (x .alias) st c t loneTick h
+
 node-aging : (x : Fixed) → NodeAging x
 node-aging x =
     record {
       ages = true-ages heardOf B7BadReceptionState (handler x) (x .alias) (makeCall x) (unrefused-call x);
-      eight-free = eight-free heardOf B7BadReceptionState (handler x) (x .alias) (makeCall x) (unrefused-call x);
+      eight-free = eight-free (λ (k : OwnCall). heardOf (k .call)) B7BadReceptionState (λ (k : OwnCall). handler (k .fixed)) (λ (k : OwnCall). k .fixed .alias)
+          (λ (k : OwnCall) left. k .contents) makeOwn (λ st left k h. unrefused-call (k .fixed) st (k .contents) (k .call) h)
+          (λ st left k h. refused-call (k .fixed) st (k .contents) (k .call) h);
     }
 
--- ---- a broken datagram
+-- ---- one tool
 
-node-rejection : (x : Fixed) → NodeRejection x
-node-rejection x = one-rejection heardOf B7BadReceptionState (handler x) (x .alias) (makeCall x) (unrefused-call x)
+node-source : (x : Fixed) → NodeSource x
+node-source x = one-source heardOf B7BadReceptionState (handler x) (x .alias) (makeCall x) (unrefused-call x)
 
 pub node-theorems : (x : Fixed) → NodeTheorems x
-node-theorems x = record { order = node-order x; aging = node-aging x; rejection = node-rejection x }
+node-theorems x = record { order = node-order x; aging = node-aging x; source = node-source x }

@@ -1,10 +1,12 @@
 // Frames joined into datagrams, or swallowed behind one that was refused.
 use rx_join_spec::JoinResult;
 ghost use Rattle.buffer.specs.Lent.{before, after};
-ghost use Rattle.can_frame.specs.Frame.{canFrame};
-ghost use Rattle.rx_spec.specs.Reception.{receive};
-ghost use Rattle.rx_spec.specs.PlaceBytes.{stateBefore};
-ghost use Rattle.rx_join_spec.specs.Joins.{Joins};
+ghost use lib.ListN.{length};
+ghost use Rattle.can_frame.specs.Frame.{canFrame, sourceOf, roleOf};
+ghost use Rattle.rx_spec.specs.Ticks.{dropDue};
+ghost use Rattle.rx_spec.specs.Reception.{placeOf, receive};
+ghost use Rattle.rx_spec.specs.PlaceBytes.{placesIn, stateBefore};
+ghost use Rattle.rx_join_spec.specs.Joins.{Joins, Lies};
 
 mod arrival;
 mod unfinished;
@@ -20,9 +22,12 @@ pub fn join(
     header: u32,
     payload: &[u8],
 ) -> JoinResult
-    ensures { λ o.
+    ensures joins { λ o.
         ⌜ Joins (receive alias tick (stateBefore places pool) (canFrame header (before payload))) (before payload) o
         (before places) (after places) (after pool) ⌝ }
+    ensures lies { λ o.
+        ⌜ Lies (roleOf alias header (length (before payload)))
+        (placeOf (sourceOf header) (dropDue tick (placesIn (before places)))) o ⌝ }
 {
     let source = can_frame::source_of(header);
     let i = arrival::arrive(places, source, tick);

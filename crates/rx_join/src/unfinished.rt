@@ -15,8 +15,8 @@ ghost use Rattle.rx_step.specs.declared.Step.the-variants as does;
 ghost use Rattle.rx_spec.specs.Place.{freePlace};
 ghost use Rattle.rx_spec.specs.Reception.{freeIn, placeOf, sound, joinSound};
 ghost use Rattle.rx_spec.specs.PlaceBytes.{placesIn, placeBytes, stateIn, stateBefore};
-ghost use Rattle.rx_join_spec.specs.Joins.{Joins};
-ghost use Rattle.rx_join_spec.specs.Inner.{Lent, Appendable, Own, Allowed, stepDone};
+ghost use Rattle.rx_join_spec.specs.Joins.{Joins, Lies};
+ghost use Rattle.rx_join_spec.specs.Inner.{Lent, Appendable, Own, Allowed, stepDone, LiesAfter};
 
 // The bytes of the pool for each place.
 const PLACE_ROOM: usize = 72;
@@ -129,9 +129,10 @@ fn append(
 // used again.
 fn close(pool: &mut [u8], places: &mut [u8; 64], i: usize, len: u8, payload: &[u8]) -> JoinResult
     requires { ⌜ Lent (now pool) (now payload) × Appendable i len true (now places) (now payload) ⌝ }
-    ensures { λ o.
+    ensures joins { λ o.
         ⌜ Joins (stepDone does.Close true 0 i (before payload) 0 (stateBefore places pool)) (before payload) o
         (before places) (after places) (after pool) ⌝ }
+    ensures lies { λ o. ⌜ LiesAfter does.Close i o ⌝ }
 {
     let from = PLACE_ROOM * i;
     let end = from + len as usize;
@@ -153,9 +154,10 @@ fn take_step(
 ) -> JoinResult
     requires { ⌜ Lent (now pool) (now payload) × (i < 8 → getD (placesIn (now places)) i freePlace .held ≡ true)
         × Allowed step i source len (now places) (now payload) ⌝ }
-    ensures { λ o.
+    ensures joins { λ o.
         ⌜ Joins (stepDone step (ltb i 8) source i (before payload) tick (stateBefore places pool)) (before payload) o
         (before places) (after places) (after pool) ⌝ }
+    ensures lies { λ o. ⌜ LiesAfter step i o ⌝ }
 {
     match step {
         Step::Ignore => {
@@ -201,9 +203,10 @@ pub fn join_sound(
 ) -> JoinResult
     requires { ⌜ Lent (now pool) (now payload) × (sound (placesIn (now places)) ≡ true)
         × (i ≡ placeOf source (placesIn (now places))) ⌝ }
-    ensures { λ o.
+    ensures joins { λ o.
         ⌜ Joins (joinSound role source (before payload) tick (stateBefore places pool)) (before payload) o
         (before places) (after places) (after pool) ⌝ }
+    ensures lies { λ o. ⌜ Lies role i o ⌝ }
 {
     let len = rx_place::len_at(places, i);
     let swallowing = rx_place::is_swallowing(places, i);

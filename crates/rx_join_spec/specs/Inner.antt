@@ -1,5 +1,5 @@
 -- What the private functions count on, and what they do.
-use Prim.Native.Nat.{ℕ, _+_, _≤_, _<_}
+use Prim.Native.Nat.{ℕ, _+_, _*_, _≤_, _<_}
 use mathlib.Core.Path.{_≡_}
 use mathlib.Core.Bool.{Bool, true, false, cond}
 use mathlib.Core.List.{List, _++_}
@@ -11,6 +11,8 @@ use Rattle.rx_spec.specs.Place.{freePlace}
 use Rattle.rx_spec.specs.Books.{blank, ignored, noAnswer, refuse, finish}
 use Rattle.rx_spec.specs.Reception.{State, isFor, bytesOfPlace, dropped, opened, appended, closed, swallowed, keptAfterRefusal, Joined, joined, joinRule}
 use Rattle.rx_spec.specs.PlaceBytes.{placesIn}
+use Rattle.rx_join_spec.specs.declared.JoinResult.{JoinResult}
+use Rattle.rx_join_spec.specs.declared.JoinResult.the-variants as outcome
 
 -- A pool of 72 bytes for each place, and a frame's data.
 pub record Lent (bytes d : List ℕ) : Type 0 where
@@ -60,3 +62,12 @@ stepDone (Refuse code) unfinished s i d now st = joined (freedIf unfinished i st
 stepDone (RefuseAndSwallow code) unfinished s i d now st = joined (keptAfterRefusal s i st) (refuse code)
 stepDone Swallow unfinished s i d now st = joined (swallowed s now i st) noAnswer
 stepDone SwallowLast unfinished s i d now st = joined (freedIf unfinished i st) noAnswer
+
+-- Where a finished datagram lies, by the step that finished it.
+abbrev pub LiesAfter : Step → ℕ → JoinResult → Type 0
+LiesAfter step i outcome.BadState = Unit {0}
+LiesAfter step i outcome.Ignored = Unit {0}
+LiesAfter step i outcome.NoAnswer = Unit {0}
+LiesAfter step i (outcome.Refuse code) = Unit {0}
+LiesAfter step i outcome.InFrame = step ≡ Deliver
+LiesAfter step i (outcome.InPool from end) = (step ≡ Close) × (from ≡ 72 * i)

@@ -1,8 +1,10 @@
 -- What the code gives back for a frame that is joined.
-use Prim.Native.Nat.{ℕ, _-_, _≤_}
+use Prim.Native.Nat.{ℕ, _*_, _-_, _≤_}
 use mathlib.Core.Path.{_≡_}
 use mathlib.Core.List.{List}
 use lib.ListN.{take, drop}
+use Rattle.can_frame.specs.declared.Role.{Role}
+use Rattle.can_frame.specs.declared.Role.the-variants.{Single, Last}
 use Rattle.rx_spec.specs.Books.{Event, ignored, noAnswer, refuse, finish, badState}
 use Rattle.rx_spec.specs.Reception.{Joined}
 use Rattle.rx_spec.specs.PlaceBytes.{placesIn, renewed}
@@ -26,6 +28,16 @@ InsidePool outcome.NoAnswer = Unit {0}
 InsidePool (outcome.Refuse code) = Unit {0}
 InsidePool outcome.InFrame = Unit {0}
 InsidePool (outcome.InPool from end) = (from ≤ end) × (end ≤ 576)
+
+-- Where a finished datagram lies, by what its last frame is to the board and the place of its source: a Single's, which
+-- is "a datagram, its own last frame", is the frame's data; a Last's is in the pool, from 72 times that place on.
+abbrev pub Lies : Role → ℕ → JoinResult → Type 0
+Lies role i outcome.BadState = Unit {0}
+Lies role i outcome.Ignored = Unit {0}
+Lies role i outcome.NoAnswer = Unit {0}
+Lies role i (outcome.Refuse code) = Unit {0}
+Lies role i outcome.InFrame = role ≡ Single
+Lies role i (outcome.InPool from end) = (role ≡ Last) × (from ≡ 72 * i)
 
 -- For a frame with the data d: the outcome o, the bytes of the places, which were `before` and are `after`, and the
 -- bytes of the pool are what j says. A place that is changed gets its bytes anew, and every other keeps all of them.

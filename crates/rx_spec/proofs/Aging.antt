@@ -1,5 +1,5 @@
--- The wrapping age is the true age, and eight places are free once frames stop being accepted. The invariant: each place that is held keeps
--- the tick of the time at which its source's last frame was accepted, and is not more than 3,000 ticks old after a call.
+-- The wrapping age is the true age. The invariant: each place that is held keeps the tick of the time at which its source's last frame was
+-- accepted, and is not more than 3,000 ticks old after a call.
 -- Assumes nothing.
 use Prim.Native.Nat.{ℕ, _+_}
 use mathlib.Core.Path.{_≡_, refl, sym, ap, _∙_, subst}
@@ -7,20 +7,20 @@ use mathlib.Core.Bool.{Bool, true, false, cond, _&&_}
 use mathlib.Core.List.{List, [], _∷_, _++_}
 use native.Mathlib.Omega.{arith}
 use lib.Dec.{eqb}
-use lib.ListN.{length}
-use borrow.Author.Tests.{eqb-true, eq-eqb, lt-ltb}
-use Rattle.buffer.proofs.Choice.{clash, by-test}
+use borrow.Author.Tests.{eqb-true, eq-eqb}
+use Rattle.buffer.specs.Buffer.{Each}
+use Rattle.buffer.proofs.Choice.{by-test}
 use Rattle.can_frame.specs.Frame.{CanFrame, sourceOf}
 use Rattle.rx_spec.specs.Place.{Place}
-use Rattle.rx_spec.specs.Ticks.{tickAt, age, isDue, dropDue}
-use Rattle.rx_spec.specs.Times.{Input, frameInput, loneTick, Timed, Follows, TimelyAfter, Timely, isAccepted}
-use Rattle.rx_spec.specs.Reception.{State, sound, atTick}
-use Rattle.rx_spec.specs.Order.{FrameResult, answerEvent, handleInput, runCalls, Fresh, Each, timesOf, stateRefused, keep}
-use Rattle.rx_spec.specs.Aging.{isCallerError, acceptsFrame, Unrefused, acceptsFrom, lastFrom, TrueAges, FarBefore, EachAccepted, freeCount, EightFree, JoinAging}
-use Rattle.rx_spec.proofs.PlaceLaws.{sound-good, blank-none}
+use Rattle.rx_spec.specs.Ticks.{tickAt, age}
+use Rattle.rx_spec.specs.Times.{Input, frameInput, loneTick, Timed, Follows, TimelyAfter, Timely, moment, InTimeAfter, InTime, isAccepted}
+use Rattle.rx_spec.specs.Reception.{State, sound, hasPlace, unfinishedFor, atTick}
+use Rattle.rx_spec.specs.Order.{FrameResult, answerEvent, handleInput, runCalls, Fresh, timesOf}
+use Rattle.rx_spec.specs.Aging.{isCallerError, acceptsFrame, Unrefused, acceptsFrom, lastFrom, momentsTo, TrueAges, EachAccepted}
+use Rattle.rx_spec.proofs.PlaceLaws.{sound-good, unfinished-is, blank-none}
 use Rattle.rx_spec.proofs.StepLaws.{Sized}
-use Rattle.rx_spec.proofs.DropLaws.{AllDated, none-dated, sized-due, age-is, due-old, by-due, dated-due, all-dated}
-use Rattle.rx_spec.proofs.InputLaws.{taken, input-is, frame-step, unrefused-sound, accepted-is, answered-state}
+use Rattle.rx_spec.proofs.DropLaws.{AllDated, none-dated, caught-up, sized-due, age-is, dated-due, all-dated}
+use Rattle.rx_spec.proofs.InputLaws.{fresh-sized, taken, input-is, frame-step, unrefused-sound, accepted-is, answered-state}
 
 module _ {C H W A : Type 0} (heard : C → Timed) (b7 : H) (handle : W → List ℕ → A × W) (alias : ℕ) (one : State → W → C → FrameResult H W A)
     (same : (st : State) (w : W) (c : C) → isCallerError (one st w c .answer) ≡ false → one st w c ≡ handleInput b7 handle alias st w (heard c .time) (heard c .input)) where
@@ -96,32 +96,65 @@ module _ {C H W A : Type 0} (heard : C → Timed) (b7 : H) (handle : W → List 
     pub follows : Follows now t
     pub left : Left P last now st
 
+  -- where no place is held, so it is at any time
+  none-left : (P : ℕ → Type 0) (last : ℕ → ℕ) (now t : ℕ) (st : State) → ((s : ℕ) → hasPlace s (st .places) ≡ false) → Left P last now st → Left P last t st
+  none-left P last now t st n l = record { sized = l .sized; dated = none-dated P last t (st .places) n }
+
+  -- the moments from a call on that is not refused
+  moments-from : (t : ℕ) (c : C) (cs : List C) (st : State) (w : W) → isCallerError (one st w c .answer) ≡ false →
+      momentsTo t heard one st w (c ∷ cs) ≡ moment (heard c .time) (unfinishedFor st) ∷ momentsTo t heard one (one st w c .state) (one st w c .world) cs
+  moments-from t c cs st w e = rw e
+
   all : (P : ℕ → Type 0) (t : ℕ) (cs : List C) (now : ℕ) (last : ℕ → ℕ) (st : State) (w : W) → Left P last now st →
-      TimelyAfter now (timesOf heard cs ++ t ∷ []) → Unrefused one st w cs → EachAccepted P heard one st w cs →
+      InTimeAfter now (momentsTo t heard one st w cs) → Unrefused one st w cs → EachAccepted P heard one st w cs →
       Ready P (λ s. lastFrom heard one s (last s) st w cs) t (runCalls one st w cs .state)
-  all P t [] now last st w l k u a = record { now = now; follows = k .0; left = l }
+  all P t [] now last st w l k u a =
+      caught-up now t (unfinishedFor st) (st .places) (λ s. unfinished-is s (st .places) (st .pool)) (k .0)
+      (λ f. record { now = now; follows = f; left = l })
+      (λ f n. record { now = t; follows = f; left = none-left P last now t st n l })
   all P t (c ∷ cs) now last st w l k u a =
       let x : Timed = heard c in
       let e : isCallerError (handleInput b7 handle alias st w (x .time) (x .input) .answer) ≡ false = ap (λ (r : FrameResult H W A). isCallerError (r .answer)) (sym (same st w c (u .0))) ∙ u .0 in
       let ok : sound (st .places) ≡ true = unrefused-sound b7 handle alias st w (x .time) (x .input) e in
+      let m = subst (InTimeAfter now) (moments-from t c cs st w (u .0)) k in
       all P t cs (x .time) (later last (x .time) (x .input) (one st w c)) (one st w c .state) (one st w c .world)
-      (call-left P last now (x .time) st w (k .0) ok l c refl (u .0) (a .0)) (k .1) (u .1) (a .1)
+      (caught-up now (x .time) (unfinishedFor st) (st .places) (λ s. unfinished-is s (st .places) (st .pool)) (m .0)
+      (λ f. call-left P last now (x .time) st w f ok l c refl (u .0) (a .0))
+      (λ f n. call-left P last (x .time) (x .time) st w f ok (none-left P last now (x .time) st n l) c refl (u .0) (a .0)))
+      (m .1) (u .1) (a .1)
 
   -- at the start nothing is unfinished, at any time
   started : (P : ℕ → Type 0) (last : ℕ → ℕ) (now : ℕ) (st : State) → Fresh st → Left P last now st
   started P last now st start =
       record {
-        sized = record { eight = start .eight; bytes = start .bytes };
+        sized = fresh-sized st start;
         dated = none-dated P last now (st .places) (λ s. blank-none s (st .places) (st .pool) (start .nothing-unfinished s));
       }
 
+  in-time : (P : ℕ → Type 0) (st : State) (w : W) (cs : List C) (t : ℕ) → Fresh st → InTime (momentsTo t heard one st w cs) → Unrefused one st w cs → EachAccepted P heard one st w cs →
+      Ready P (λ s. lastFrom heard one s 0 st w cs) t (runCalls one st w cs .state)
+  in-time P st w [] t start k u a = all P t [] t (λ s. 0) st w (started P (λ s. 0) t st start) ((omega arith, λ s e. omega arith), tt) u a
+  in-time P st w (c ∷ cs) t start k u a =
+      all P t (c ∷ cs) (heard c .time) (λ s. 0) st w (started P (λ s. 0) (heard c .time) st start)
+      (subst (InTimeAfter (heard c .time)) (sym (moments-from t c cs st w (u .0))) ((omega arith, λ s e. omega arith), subst InTime (moments-from t c cs st w (u .0)) k)) u a
+
+  -- times that are timely are in time
+  timely-after : (now t : ℕ) (cs : List C) (st : State) (w : W) → TimelyAfter now (timesOf heard cs ++ t ∷ []) → Unrefused one st w cs → InTimeAfter now (momentsTo t heard one st w cs)
+  timely-after now t [] st w k u = ((k .0 .0, λ s e. k .0 .1), tt)
+  timely-after now t (c ∷ cs) st w k u =
+      subst (InTimeAfter now) (sym (moments-from t c cs st w (u .0)))
+      ((k .0 .0, λ s e. k .0 .1), timely-after (heard c .time) t cs (one st w c .state) (one st w c .world) (k .1) (u .1))
+
+  timely-in-time : (t : ℕ) (cs : List C) (st : State) (w : W) → Timely (timesOf heard cs ++ t ∷ []) → Unrefused one st w cs → InTime (momentsTo t heard one st w cs)
+  timely-in-time t [] st w k u = tt
+  timely-in-time t (c ∷ cs) st w k u =
+      subst InTime (sym (moments-from t c cs st w (u .0))) (timely-after (heard c .time) t cs (one st w c .state) (one st w c .world) k (u .1))
+
   pub ready : (P : ℕ → Type 0) (st : State) (w : W) (cs : List C) (t : ℕ) → Fresh st → Timely (timesOf heard cs ++ t ∷ []) → Unrefused one st w cs → EachAccepted P heard one st w cs →
       Ready P (λ s. lastFrom heard one s 0 st w cs) t (runCalls one st w cs .state)
-  ready P st w [] t start k u a = all P t [] t (λ s. 0) st w (started P (λ s. 0) t st start) ((omega arith, omega arith), tt) u a
-  ready P st w (c ∷ cs) t start k u a =
-      all P t (c ∷ cs) (heard c .time) (λ s. 0) st w (started P (λ s. 0) (heard c .time) st start) ((omega arith, omega arith), k) u a
+  ready P st w cs t start k u a = in-time P st w cs t start (timely-in-time t cs st w k u) u a
 
-  -- ---- the two theorems
+  -- ---- the theorem
 
   pub always : (st : State) (w : W) (cs : List C) → EachAccepted (λ t. Unit {0}) heard one st w cs
   always st w [] = tt
@@ -134,32 +167,5 @@ module _ {C H W A : Type 0} (heard : C → Timed) (b7 : H) (handle : W → List 
 
   pub true-ages : TrueAges heard one
   true-ages st w cs t start k u =
-      let r = ready (λ x. Unit {0}) st w cs t start k u (always st w cs) in
+      let r = in-time (λ x. Unit {0}) st w cs t start k u (always st w cs) in
       each-age (λ s. lastFrom heard one s 0 st w cs) (r .now) t (r .follows) (runCalls one st w cs .state .places) (r .left .dated)
-
-  all-free : (last : ℕ → ℕ) (now t : ℕ) → Follows now t → (ps : List Place) → AllDated (FarBefore t) last now ps →
-      freeCount (dropDue (tickAt t) ps) ≡ length ps
-  unfolding dropDue
-  all-free last now t follows [] d = refl
-  all-free last now t follows (p ∷ ps) d =
-      by-due (tickAt t) p
-      (λ e q. rw (q, all-free last now t follows ps (d .1)) (omega arith))
-      (λ e q. rw (q, free e, all-free last now t follows ps (d .1)) (omega arith))
-    where
-      free : isDue (tickAt t) p ≡ false → p .held ≡ false
-      free e =
-          by-test (p .held)
-          (λ h. let x = d .0 h in
-          clash (sym (due-old (FarBefore t) last now t follows p h x ∙ lt-ltb (last (p .source) + 3000) t (omega (arith, x .kept))) ∙ e))
-          (λ h. h)
-
-  pub eight-free : EightFree heard one
-  eight-free st w cs t start k u a =
-      let r = ready (FarBefore t) st w cs t start k u a in
-      all-free (λ s. lastFrom heard one s 0 st w cs) (r .now) t (r .follows) (runCalls one st w cs .state .places) (r .left .dated) ∙ r .left .sized .eight
-
-pub join-aging : JoinAging
-join-aging alias = (
-  true-ages (λ (c : Timed). c) stateRefused keep alias (λ st ds c. handleInput stateRefused keep alias st ds (c .time) (c .input)) (λ st ds c h. refl),
-  eight-free (λ (c : Timed). c) stateRefused keep alias (λ st ds c. handleInput stateRefused keep alias st ds (c .time) (c .input)) (λ st ds c h. refl),
-)

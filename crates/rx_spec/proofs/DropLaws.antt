@@ -10,13 +10,13 @@ use native.Mathlib.Omega.{arith}
 use lib.Dec.{ltb}
 use lib.ListN.{length, drop}
 use borrow.Author.Tests.{ltb-true, ltb-false, lt-ltb, le-ltb}
-use Rattle.buffer.proofs.Choice.{clash, and-false, and-left, and-right}
+use Rattle.buffer.specs.Buffer.{Each}
+use Rattle.buffer.proofs.Choice.{clash, and-false, and-left, and-right, by-test}
 use Rattle.rx_spec.specs.Place.{Place, freePlace}
 use Rattle.rx_spec.specs.Ticks.{tickAt, age, isDue, afterTick, dropDue}
-use Rattle.rx_spec.specs.Books.{blank}
-use Rattle.rx_spec.specs.Times.{Follows}
+use Rattle.rx_spec.specs.Books.{Book, blank, isUnfinished}
+use Rattle.rx_spec.specs.Times.{Near, Follows, moment, MayFollow}
 use Rattle.rx_spec.specs.Reception.{State, isFor, unfinishedIn, hasPlace, full, atTick}
-use Rattle.rx_spec.specs.Order.{Each}
 use Rattle.rx_spec.proofs.PlaceLaws.{isFor-held, isFor-source, isFor-free, isFor-self, none-head, none-tail, blank-of, Good}
 use Rattle.rx_spec.proofs.TurnedLaws.{Kept, Turned, AllTurned}
 use Rattle.rx_spec.proofs.StepLaws.{Sized}
@@ -31,7 +31,7 @@ pub due-age : (now : ℕ) (p : Place) → isDue now p ≡ true → 3000 < age no
 unfolding isDue
 due-age now p e = ltb-true 3000 (age now (p .tick)) (and-right (p .held) (ltb 3000 (age now (p .tick))) e)
 
-is-due : (now : ℕ) (p : Place) → p .held ≡ true → isDue now p ≡ ltb 3000 (age now (p .tick))
+pub is-due : (now : ℕ) (p : Place) → p .held ≡ true → isDue now p ≡ ltb 3000 (age now (p .tick))
 unfolding isDue
 is-due now p e = rw e
 
@@ -113,7 +113,7 @@ unfinished-young now s (p ∷ ps) pool y = go (isFor s p) refl (unfinished-young
     go false e ih = rw (after-not now s p e, e) ih
 
 -- a place that is kept is for whom it was
-kept-for : (s : ℕ) (q p : Place) → Kept q p → isFor s p ≡ true → isFor s q ≡ true
+pub kept-for : (s : ℕ) (q p : Place) → Kept q p → isFor s p ≡ true → isFor s q ≡ true
 kept-for s q p k u = isFor-self s q (sym (k .held) ∙ isFor-held s p u) (sym (k .source) ∙ isFor-source s p u)
 
 -- after an accepted frame of s at the tick `now`, what is kept for s has that tick
@@ -150,11 +150,31 @@ AnyTime t = Unit {0}
 abbrev pub AllDated : (ℕ → Type 0) → (ℕ → ℕ) → ℕ → List Place → Type 0
 AllDated P last now ps = Each (λ (p : Place). p .held ≡ true → Dated P last now p) ps
 
+-- the same of each place of s
+abbrev pub DatedFor : (ℕ → Type 0) → (ℕ → ℕ) → ℕ → ℕ → List Place → Type 0
+DatedFor P last now s ps = Each (λ (p : Place). isFor s p ≡ true → Dated P last now p) ps
+
+pub dated-for : (P : ℕ → Type 0) (last : ℕ → ℕ) (now s : ℕ) (ps : List Place) → AllDated P last now ps → DatedFor P last now s ps
+dated-for P last now s [] d = tt
+dated-for P last now s (p ∷ ps) d = (λ h. d .0 (isFor-held s p h), dated-for P last now s ps (d .1))
+
 -- where no place is held, each that is held has any time
 pub none-dated : (P : ℕ → Type 0) (last : ℕ → ℕ) (now : ℕ) (ps : List Place) → ((s : ℕ) → hasPlace s ps ≡ false) → AllDated P last now ps
 none-dated P last now [] e = tt
 none-dated P last now (p ∷ ps) e =
     (λ h. clash (rw (isFor-self (p .source) p h refl) at (e (p .source))), none-dated P last now ps (λ s. none-tail s p ps (e s)))
+
+-- a call that may follow on `now` follows on it where a place is held; where none is, all of it is as if the one before came at the same time
+pub caught-up : {X : Type 0} (now t : ℕ) (book : ℕ → Book) (ps : List Place) → ((s : ℕ) → isUnfinished (book s) ≡ hasPlace s ps) → MayFollow now (moment t book) →
+    (Follows now t → X) → (Follows t t → ((s : ℕ) → hasPlace s ps ≡ false) → X) → X
+caught-up now t book ps same m some none = go ps (λ s e. m .1 s (same s ∙ e)) some none
+  where
+    go : {X : Type 0} (ps : List Place) → ((s : ℕ) → hasPlace s ps ≡ true → Near now t) → (Follows now t → X) → (Follows t t → ((s : ℕ) → hasPlace s ps ≡ false) → X) → X
+    go [] near some none = none (omega arith, omega arith) (λ s. refl)
+    go (p ∷ ps) near some none =
+        by-test (p .held)
+        (λ h. some (m .0, near (p .source) (rw (isFor-self (p .source) p h refl))))
+        (λ h. go ps (λ s e. near s (rw (isFor-free s p h) e)) some (λ f n. none f (λ s. rw (isFor-free s p h) (n s))))
 
 module _ (P : ℕ → Type 0) (last : ℕ → ℕ) (now t : ℕ) (follows : Follows now t) where
   pub age-is : (p : Place) → Dated P last now p → last (p .source) + age (tickAt t) (p .tick) ≡ t
@@ -187,7 +207,7 @@ module _ (P : ℕ → Type 0) (last : ℕ → ℕ) (now t : ℕ) (follows : Foll
       ))
 
   -- what the state has for s after the tick
-  pub unfinished-due : (s : ℕ) (ps : List Place) (pool : List ℕ) → Good ps → AllDated P last now ps →
+  pub unfinished-due : (s : ℕ) (ps : List Place) (pool : List ℕ) → Good ps → DatedFor P last now s ps →
       unfinishedIn (dropDue (tickAt t) ps) pool s ≡ cond (ltb (last s + 3000) t) blank (unfinishedIn ps pool s)
   unfolding dropDue
   unfinished-due s [] pool g d = go (ltb (last s + 3000) t)
@@ -198,7 +218,7 @@ module _ (P : ℕ → Type 0) (last : ℕ → ℕ) (now t : ℕ) (follows : Foll
   unfinished-due s (p ∷ ps) pool g d = go (isFor s p) refl (unfinished-due s ps (drop 72 pool) (g .1) (d .1))
     where
       old : isFor s p ≡ true → isDue (tickAt t) p ≡ ltb (last s + 3000) t
-      old e = let h = isFor-held s p e in due-old p h (d .0 h) ∙ ap (λ (x : ℕ). ltb (last x + 3000) t) (isFor-source s p e)
+      old e = due-old p (isFor-held s p e) (d .0 e) ∙ ap (λ (x : ℕ). ltb (last x + 3000) t) (isFor-source s p e)
 
       rest : isFor s p ≡ true → unfinishedIn (dropDue (tickAt t) ps) (drop 72 pool) s ≡ blank
       rest e = blank-of s (dropDue (tickAt t) ps) (drop 72 pool) (none-due (tickAt t) s ps (rw (isFor-source s p e) at (g .0 (isFor-held s p e) .alone)))

@@ -1,17 +1,30 @@
 -- Worked examples: a tool with the alias 5 that has begun a datagram, at the ends of its 3,000 ticks, and after a frame that was lost, on a board
--- with the alias 0x123.
+-- with the alias 0x123. And calls that the theorems speak of, at the edge of all that they assume.
 -- Assumes nothing.
-use mathlib.Core.Path.{_≡_, refl}
-use mathlib.Core.Bool.{true, false}
-use mathlib.Core.List.{[], _∷_}
-use lib.ListN.{replicate}
-use Rattle.buffer.specs.Buffer.{putAt}
-use Rattle.can_frame.specs.Frame.{CanFrame, canFrame, kindOfFrame, addressed, roleOf}
-use Rattle.rx_spec.specs.Place.{place, heldFor, swallowingFor, freePlace}
-use Rattle.rx_spec.specs.Ticks.{age, isDue, dropDue}
-use Rattle.rx_spec.specs.Books.{blank, holds, swallowing, ignored, noAnswer, refuse, finish, badState}
-use Rattle.rx_spec.specs.Times.{frameInput, loneTick, timed, dated, hearTime, bookOf}
-use Rattle.rx_spec.specs.Reception.{State, state, isFor, keptIn, sound, joinSound, joined, receive, receiveAll}
+use Prim.Native.Nat.{ℕ, zero, suc, _+_, _≤_, _<_}
+use mathlib.Core.Path.{_≡_, refl, sym, ap, _∙_}
+use mathlib.Core.Logic.{_≢_, _⊎_}
+use mathlib.Core.Bool.{true, false, cond}
+use mathlib.Core.List.{List, [], _∷_, _++_, map}
+use native.Mathlib.Omega.{arith}
+use lib.Dec.{ltb, eqb}
+use lib.ListN.{take, replicate}
+use borrow.Author.Tests.{ltb-true, ltb-false, lt-ltb, ne-eqb}
+use Rattle.buffer.proofs.Choice.{clash, by-test, cond-true, cond-elim}
+use Rattle.buffer.specs.Buffer.{putAt, Each}
+use Rattle.can_frame.specs.declared.Role.the-variants.{Ignored, First, Last}
+use Rattle.can_frame.specs.Frame.{CanFrame, canFrame, kindOfFrame, addressed, sourceOf, roleOf}
+use Rattle.rx_spec.specs.Place.{Place, place, heldFor, swallowingFor, freePlace}
+use Rattle.rx_spec.specs.Ticks.{tickAt, age, isDue, dropDue}
+use Rattle.rx_spec.specs.Books.{Book, blank, holds, swallowing, isUnfinished, bufferUnavailable, ignored, noAnswer, refuse, finish, badState, enterFrame}
+use Rattle.rx_spec.specs.Times.{Input, frameInput, loneTick, Timed, timed, InTime, momentsOf, DatedBook, dated, isAccepted, hearTime, hearInput, hearCall, hearCalls, bookOf}
+use Rattle.rx_spec.specs.Reception.{State, state, atTick, isFor, keptIn, sound, joinSound, joined, receive, receiveAll}
+use Rattle.rx_spec.specs.Order.{CallAnswer, nothing, transportRefusal, FrameResult, handleFrame, handleTick, handleInput, runCalls, unfinishedBelow, Fresh, AtMostEight, InOrder, StateRefusal, stateRefused, keep}
+use Rattle.rx_spec.specs.Aging.{Unrefused, lastFrom, momentsTo, FarBefore, EachAccepted, freeCount, AnyState, FirstAt, joinAt, JoinCall}
+use Rattle.rx_spec.specs.OneSource.{Admitted, ByItsBook, TurnedAway}
+use Rattle.rx_spec.proofs.Order.{join-order}
+use Rattle.rx_spec.proofs.FreePlaces.{join-aging}
+use Rattle.rx_spec.proofs.OneSource.{join-one-source}
 
 -- ---- a place
 
@@ -171,3 +184,223 @@ book-swallowing = refl
 book-gone : bookOf 0x123 (timed 0 (frameInput first-of-5) ∷ timed 1 (frameInput first-of-5) ∷ timed 3001 loneTick ∷ []) 5 .book ≡ blank
 unfolding first-of-5 bookOf kindOfFrame addressed roleOf
 book-gone = refl
+
+-- ---- the order statement, at the edge of what it assumes
+
+-- free places, and the pool, may hold anything
+unfoldable pub junk : State
+junk = state (replicate 8 (place false 200 9999 1 true)) (replicate 576 85)
+
+pub fresh-junk : Fresh junk
+unfolding junk isFor
+fresh-junk = record { passes-b7 = refl; eight = refl; bytes = refl; nothing-unfinished = λ s. refl }
+
+-- eight tools begin a datagram each at the time 7
+unfoldable pub begins : ℕ → Timed
+begins s = timed 7 (frameInput (canFrame (0x1B123000 + s) []))
+
+unfoldable pub eight-begin : List Timed
+eight-begin = begins 0 ∷ begins 1 ∷ begins 2 ∷ begins 3 ∷ begins 4 ∷ begins 5 ∷ begins 6 ∷ begins 7 ∷ []
+
+-- 61,999 ticks later, with eight unfinished, a tick comes; and 1,000,000 ticks later, with none, another
+unfoldable pub edge : List Timed
+unfolding eight-begin
+edge = eight-begin ++ timed 62006 loneTick ∷ timed 1062006 loneTick ∷ []
+
+-- the calls bring no frame of s
+abbrev NotFrom : ℕ → Timed → Type 0
+NotFrom s c = (alias t : ℕ) (b : DatedBook) → hearInput alias s t (c .input) b ≡ b
+
+begins-not : (k s : ℕ) → sourceOf (0x1B123000 + k) ≢ s → NotFrom s (begins k)
+unfolding begins
+begins-not k s n alias t b = rw (ne-eqb (sourceOf (0x1B123000 + k)) s n)
+
+still-blank : (t : ℕ) (b : DatedBook) → b .book ≡ blank → hearTime t b .book ≡ blank
+still-blank t b e = cond-elim (λ (x : Book). x ≡ blank) (ltb (b .last + 3000) t) (λ q. refl) (λ q. e)
+
+blank-after : (alias s : ℕ) (cs : List Timed) (b : DatedBook) → Each (NotFrom s) cs → b .book ≡ blank → hearCalls alias s b cs .book ≡ blank
+blank-after alias s [] b n e = e
+blank-after alias s (c ∷ cs) b n e =
+    blank-after alias s cs (hearCall alias s c b) (n .1) (ap (λ (x : DatedBook). x .book) (n .0 alias (c .time) (hearTime (c .time) b)) ∙ still-blank (c .time) b e)
+
+each-take : {C : Type 0} (P : C → Type 0) (n : ℕ) (cs : List C) → Each P cs → Each P (take n cs)
+each-take P zero cs e = tt
+each-take P (suc n) [] e = tt
+each-take P (suc n) (c ∷ cs) e = (e .0, each-take P n cs (e .1))
+
+-- where no source from 8 on is unfinished, at most eight are
+at-most : (n : ℕ) (book : ℕ → Book) → ((s : ℕ) → 8 ≤ s → book s ≡ blank) → (unfinishedBelow n book ≤ n) × (unfinishedBelow n book ≤ 8)
+unfolding unfinishedBelow
+at-most zero book none = (omega arith, omega arith)
+at-most (suc n) book none =
+    let ih = at-most n book none in
+    by-test (ltb n 8)
+    (λ e. let h = ltb-true n 8 e in
+    let one : cond (isUnfinished (book n)) 1 0 ≤ 1 = cond-elim (λ (x : ℕ). x ≤ 1) (isUnfinished (book n)) (λ q. omega arith) (λ q. omega arith) in
+    (omega (arith, ih .0, one), omega (arith, ih .0, one)))
+    (λ e. let h = ltb-false n 8 e in
+    let zero : cond (isUnfinished (book n)) 1 0 ≤ 0 = rw (none n h) (omega arith) in
+    (omega (arith, ih .0, zero), omega (arith, ih .1, zero)))
+
+-- no tool from 8 on is heard
+not-from-8 : (s : ℕ) → 8 ≤ s → Each (NotFrom s) edge
+unfolding edge eight-begin begins
+not-from-8 s h =
+    let begun : (k : ℕ) → k < 8 → NotFrom s (begins k) = λ k l. begins-not k s (λ e. omega (arith, e)) in
+    (begun 0 (omega arith), (begun 1 (omega arith), (begun 2 (omega arith), (begun 3 (omega arith), (begun 4 (omega arith), (begun 5 (omega arith), (begun 6 (omega arith), (begun 7 (omega arith), (λ alias t b. refl, (λ alias t b. refl, tt))))))))))
+
+pub eight-tools : AtMostEight 0x123 edge
+unfolding bookOf
+eight-tools n =
+    let few : unfinishedBelow 4096 (λ s. bookOf 0x123 (take n edge) s .book) ≤ 8 =
+    at-most 4096 (λ s. bookOf 0x123 (take n edge) s .book) (λ s h. blank-after 0x123 s (take n edge) _ (each-take (NotFrom s) n edge (not-from-8 s h)) refl) .1 in
+    omega (arith, few)
+
+-- and they are eight
+below-more : (n : ℕ) (book : ℕ → Book) → 8 ≤ n → ((s : ℕ) → 8 ≤ s → book s ≡ blank) → unfinishedBelow n book ≡ unfinishedBelow 8 book
+unfolding unfinishedBelow
+below-more zero book h none = absurd (omega (arith, h))
+below-more (suc n) book h none =
+    by-test (ltb n 8)
+    (λ e. let q : suc n ≡ 8 = omega (arith, h, ltb-true n 8 e) in ap (λ (m : ℕ). unfinishedBelow m book) q)
+    (λ e. let l = ltb-false n 8 e in rw (none n l) (omega (arith, below-more n book l none)))
+
+first-eight : unfinishedBelow 8 (λ s. bookOf 0x123 (take 8 edge) s .book) ≡ 8
+unfolding edge eight-begin begins unfinishedBelow bookOf kindOfFrame addressed roleOf
+first-eight = refl
+
+all-eight : unfinishedBelow 4096 (λ s. bookOf 0x123 (take 8 edge) s .book) ≡ 8
+unfolding bookOf
+all-eight =
+    below-more 4096 (λ s. bookOf 0x123 (take 8 edge) s .book) (omega arith) (λ s h. blank-after 0x123 s (take 8 edge) _ (each-take (NotFrom s) 8 edge (not-from-8 s h)) refl)
+    ∙ first-eight
+
+-- after a tick that is far behind all of them, no tool is unfinished
+last-before : (alias s x : ℕ) (cs : List Timed) (b : DatedBook) → b .last ≤ x → Each (λ (c : Timed). c .time ≤ x) cs → hearCalls alias s b cs .last ≤ x
+last-before alias s x [] b h e = h
+last-before alias s x (c ∷ cs) b h e = last-before alias s x cs (hearCall alias s c b) (go (c .input)) (e .1)
+  where
+    go : (i : Input) → hearInput alias s (c .time) i (hearTime (c .time) b) .last ≤ x
+    go (frameInput f) =
+        cond-elim (λ (d : DatedBook). d .last ≤ x) (eqb (sourceOf (f .header)) s)
+        (λ q. cond-elim (λ (y : ℕ). y ≤ x) (isAccepted (enterFrame alias f (hearTime (c .time) b .book) .event)) (λ a. e .0) (λ a. h))
+        (λ q. h)
+    go loneTick = h
+
+all-blank : (s : ℕ) → bookOf 0x123 (take 9 edge) s .book ≡ blank
+unfolding edge eight-begin begins bookOf
+all-blank s =
+    let h : hearCalls 0x123 s (dated blank 0) eight-begin .last ≤ 7 =
+    last-before 0x123 s 7 eight-begin (dated blank 0) (omega arith)
+    (omega arith, (omega arith, (omega arith, (omega arith, (omega arith, (omega arith, (omega arith, (omega arith, tt)))))))) in
+    cond-true (ltb (hearCalls 0x123 s (dated blank 0) eight-begin .last + 3000) 62006) blank (hearCalls 0x123 s (dated blank 0) eight-begin .book) (lt-ltb (hearCalls 0x123 s (dated blank 0) eight-begin .last + 3000) 62006 (omega (arith, h)))
+
+pub edge-in-time : InTime (momentsOf 0x123 edge)
+unfolding edge eight-begin begins
+edge-in-time =
+    ((omega arith, λ s e. omega arith), ((omega arith, λ s e. omega arith), ((omega arith, λ s e. omega arith), ((omega arith, λ s e. omega arith), ((omega arith, λ s e. omega arith), ((omega arith, λ s e. omega arith), ((omega arith, λ s e. omega arith), ((omega arith, λ s e. omega arith), ((omega arith, λ s e. clash (sym e ∙ ap isUnfinished (all-blank s))), tt)))))))))
+
+-- the statement speaks of them
+order-at-the-edge : InOrder stateRefused keep 0x123 [] edge (runCalls (λ st ds c. handleInput stateRefused keep 0x123 st ds (c .time) (c .input)) junk [] edge)
+unfolding edge eight-begin
+order-at-the-edge =
+    join-order 0x123 junk [] edge
+    (record {
+      fresh = fresh-junk;
+      fit = tt;
+      fine = (tt, (tt, (tt, (tt, (tt, (tt, (tt, (tt, (tt, (tt, tt))))))))));
+      in-time = edge-in-time;
+      at-most-eight = eight-tools;
+    })
+
+-- ---- ages, eight free places and the rejection, at the edge of what they assume
+
+abbrev joinOne : State → List (List ℕ) → Timed → FrameResult StateRefusal (List (List ℕ)) (List ℕ)
+joinOne = joinAt 0x123
+
+-- 1,000,000 ticks pass with nothing unfinished, and 61,999 with a datagram begun
+paused : List Timed
+paused = timed 7 loneTick ∷ timed 1000007 (frameInput first-of-5) ∷ []
+
+paused-in-time : InTime (momentsTo 1062006 (λ (c : Timed). c) joinOne junk [] paused)
+unfolding paused junk first-of-5 putAt isDue dropDue isFor keptIn joinSound receive handleFrame handleTick kindOfFrame addressed roleOf
+paused-in-time = ((omega arith, λ s e. clash (sym e)), ((omega arith, λ s e. omega arith), tt))
+
+paused-unrefused : Unrefused joinOne junk [] paused
+unfolding paused junk first-of-5 putAt isDue dropDue isFor keptIn joinSound receive handleFrame handleTick kindOfFrame addressed roleOf
+paused-unrefused = (refl, (refl, tt))
+
+ages-at-the-edge : Each (λ (p : Place). p .held ≡ true → lastFrom (λ (c : Timed). c) joinOne (p .source) 0 junk [] paused + age (tickAt 1062006) (p .tick) ≡ 1062006)
+    (runCalls joinOne junk [] paused .state .places)
+ages-at-the-edge = join-aging .ages 0x123 junk [] paused 1062006 fresh-junk paused-in-time paused-unrefused
+
+-- eight datagrams are unfinished at the start, the last tick before 0 in each place; a tick comes at 0, and 3,001 ticks later they are gone
+unfoldable pub eight-held : State
+eight-held =
+    state
+    (heldFor 0 72 65535 ∷ heldFor 1 72 65535 ∷ heldFor 2 72 65535 ∷ heldFor 3 72 65535 ∷ heldFor 4 72 65535 ∷ heldFor 5 72 65535 ∷ heldFor 6 72 65535 ∷ heldFor 7 72 65535 ∷ [])
+    (replicate 576 85)
+
+abbrev joinOwn : State → List (List ℕ) → JoinCall → FrameResult StateRefusal (List (List ℕ)) (List ℕ)
+joinOwn st ds k = joinAt (k .alias) st [] (k .call)
+
+one-tick-at-0 : List JoinCall
+one-tick-at-0 = record { alias = 0x123; call = timed 0 loneTick } ∷ []
+
+pub eight-held-any : AnyState eight-held
+unfolding eight-held
+eight-held-any = record { eight = refl; bytes = refl; ticks = (omega arith, (omega arith, (omega arith, (omega arith, (omega arith, (omega arith, (omega arith, (omega arith, tt)))))))) }
+
+held-in-time : InTime (momentsTo 3001 (λ (k : JoinCall). k .call) joinOwn eight-held [] one-tick-at-0)
+unfolding one-tick-at-0 eight-held isDue dropDue isFor handleTick
+held-in-time = ((omega arith, λ s e. omega arith), tt)
+
+held-far : FirstAt (FarBefore 3001) (momentsTo 3001 (λ (k : JoinCall). k .call) joinOwn eight-held [] one-tick-at-0)
+unfolding one-tick-at-0 eight-held isDue dropDue isFor handleTick
+held-far = omega arith
+
+none-accepted : EachAccepted (FarBefore 3001) (λ (k : JoinCall). k .call) joinOwn eight-held [] one-tick-at-0
+unfolding one-tick-at-0
+none-accepted = (λ e. clash (sym e), tt)
+
+free-at-the-edge : freeCount (atTick (tickAt 3001) (runCalls joinOwn eight-held [] one-tick-at-0 .state) .places) ≡ 8
+free-at-the-edge = join-aging .eight-free eight-held [] one-tick-at-0 3001 eight-held-any held-in-time (λ s e. held-far) none-accepted
+
+-- a datagram is begun 61,999 ticks after the call before; just 3,000 ticks later a First is refused; and 61,999 ticks later a tick comes
+before-refusal : List Timed
+before-refusal = timed 7 loneTick ∷ timed 62006 (frameInput first-of-5) ∷ []
+
+refused-first : Timed
+unfolding first-of-5
+refused-first = timed 65006 (frameInput first-of-5)
+
+behind-refusal : List Timed
+behind-refusal = timed 127005 loneTick ∷ []
+
+refusal-unrefused : Unrefused joinOne junk [] (before-refusal ++ refused-first ∷ behind-refusal)
+unfolding before-refusal refused-first behind-refusal junk first-of-5 putAt isDue dropDue isFor keptIn joinSound receive handleFrame handleTick kindOfFrame addressed roleOf
+refusal-unrefused = (refl, (refl, (refl, (refl, tt))))
+
+abbrev to-the-refusal : List Timed
+to-the-refusal = before-refusal ++ refused-first ∷ []
+
+never-turned-away : Admitted (λ (c : Timed). c) joinOne 5 junk [] to-the-refusal
+unfolding before-refusal refused-first junk first-of-5 putAt isDue dropDue isFor keptIn joinSound receive handleFrame handleTick kindOfFrame addressed roleOf
+never-turned-away = (λ e. clash (sym e), (λ e. differ, (λ e. other, tt)))
+  where
+    differ : (let a : CallAnswer StateRefusal (List ℕ) = nothing in let b : CallAnswer StateRefusal (List ℕ) = transportRefusal bufferUnavailable in a ≢ b)
+    differ q = absurd (let z : _≡_ {A = ℕ} 0 1 = cc in omega arith)
+
+    other : (let a : CallAnswer StateRefusal (List ℕ) = transportRefusal 0x2040 in let b : CallAnswer StateRefusal (List ℕ) = transportRefusal bufferUnavailable in a ≢ b)
+    other q = let n : _≡_ {A = ℕ} 0x2040 0x2020 = cc in omega arith
+
+source-at-the-edge :
+    let before = runCalls joinOne junk [] to-the-refusal in
+    let r = joinOne (before .state) (before .world) (timed 127005 loneTick) in
+    ByItsBook stateRefused keep 0x123 5 (map (λ (c : Timed). c) to-the-refusal) (timed 127005 loneTick) (before .world) r
+    ⊎ TurnedAway stateRefused keep 0x123 5 (map (λ (c : Timed). c) to-the-refusal) (timed 127005 loneTick) (before .world) r
+unfolding before-refusal refused-first behind-refusal
+source-at-the-edge =
+    join-one-source 0x123 5 junk [] to-the-refusal (timed 127005 loneTick)
+    (record { eight = fresh-junk .eight; bytes = fresh-junk .bytes; nothing-unfinished = fresh-junk .nothing-unfinished 5 })
+    ((omega arith, omega arith), ((omega arith, omega arith), ((omega arith, omega arith), tt))) refusal-unrefused never-turned-away

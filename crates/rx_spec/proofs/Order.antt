@@ -10,19 +10,20 @@ use native.Mathlib.Omega.{arith}
 use lib.Dec.{ltb, eqb}
 use lib.ListN.{length, take}
 use borrow.Author.Tests.{eqb-true, eqb-false, eq-eqb, ne-eqb}
+use Rattle.buffer.specs.Buffer.{Each}
 use Rattle.can_frame.specs.declared.Role.the-variants.{First}
 use Rattle.can_frame.specs.Frame.{CanFrame, sourceOf, roleOf}
 use Rattle.can_frame.proofs.Laws.{source-small}
 use Rattle.rx_spec.specs.Ticks.{tickAt}
 use Rattle.rx_spec.specs.Books.{Book, blank, isUnfinished, Event, ignored, noAnswer, refuse, finish, badState, Entry, enterFrame}
-use Rattle.rx_spec.specs.Times.{Input, frameInput, loneTick, Timed, Follows, TimelyAfter, DatedBook, isAccepted, hearTime, hearInput, hearCall, hearCalls, bookOf, inputEvent, eventsAfter}
+use Rattle.rx_spec.specs.Times.{Input, frameInput, loneTick, Timed, Follows, moment, MayFollow, InTimeAfter, DatedBook, isAccepted, hearTime, hearInput, hearCall, hearCalls, bookOf, momentsAfter, inputEvent, eventsAfter}
 use Rattle.rx_spec.specs.Reception.{State, unfinishedFor, full, atTick}
-use Rattle.rx_spec.specs.Order.{CallAnswer, callerError, ignoredFrame, nothing, transportRefusal, handled, FrameResult, answerEvent, handleInput, CallsResult, answerFirst, runCalls, datagramsOf, answersTo, worldAfter, unfinishedBelow, Fresh, Each, timesOf, OrderStatement, stateRefused, keep, JoinOrder}
-use Rattle.rx_spec.proofs.PlaceLaws.{Good, good-sound, blank-none, none-good}
+use Rattle.rx_spec.specs.Order.{CallAnswer, callerError, ignoredFrame, nothing, transportRefusal, handled, FrameResult, answerEvent, handleInput, CallsResult, answerFirst, runCalls, datagramsOf, answersTo, worldAfter, unfinishedBelow, Fresh, OrderStatement, stateRefused, keep, JoinOrder}
+use Rattle.rx_spec.proofs.PlaceLaws.{Good, good-sound, unfinished-is, blank-none, none-good}
 use Rattle.rx_spec.proofs.CountLaws.{not-full}
 use Rattle.rx_spec.proofs.StepLaws.{Sized, Step, with-room}
-use Rattle.rx_spec.proofs.DropLaws.{AnyTime, AllDated, none-dated, good-due, sized-due, dated-due, unfinished-due, all-dated}
-use Rattle.rx_spec.proofs.InputLaws.{taken, input-is, frame-step}
+use Rattle.rx_spec.proofs.DropLaws.{AnyTime, AllDated, dated-for, none-dated, caught-up, good-due, sized-due, dated-due, unfinished-due, all-dated}
+use Rattle.rx_spec.proofs.InputLaws.{fresh-sized, taken, input-is, frame-step}
 
 -- ---- the books
 
@@ -30,7 +31,7 @@ hear-append : (alias s : ℕ) (b : DatedBook) (cs ds : List Timed) → hearCalls
 hear-append alias s b [] ds = refl
 hear-append alias s b (c ∷ cs) ds = hear-append alias s (hearCall alias s c b) cs ds
 
-book-next : (alias : ℕ) (past : List Timed) (c : Timed) (s : ℕ) → bookOf alias (past ++ c ∷ []) s ≡ hearCall alias s c (bookOf alias past s)
+pub book-next : (alias : ℕ) (past : List Timed) (c : Timed) (s : ℕ) → bookOf alias (past ++ c ∷ []) s ≡ hearCall alias s c (bookOf alias past s)
 unfolding bookOf
 book-next alias past c s = hear-append alias s _ past (c ∷ [])
 
@@ -49,7 +50,8 @@ module _ (st : State) (now t : ℕ) (book : ℕ → DatedBook) (inv : Agrees st 
       record {
         good = good-due (tickAt t) (st .places) (inv .good);
         sized = sized-due (tickAt t) st (inv .sized);
-        same = λ s. unfinished-due AnyTime (λ x. book x .last) now t follows s (st .places) (st .pool) (inv .good) (inv .dated)
+        same = λ s. unfinished-due AnyTime (λ x. book x .last) now t follows s (st .places) (st .pool) (inv .good)
+            (dated-for AnyTime (λ x. book x .last) now s (st .places) (inv .dated))
             ∙ ap (cond (ltb (book s .last + 3000) t) blank) (inv .same s);
         dated = dated-due AnyTime (λ x. book x .last) now t follows (st .places) (inv .dated);
       }
@@ -163,6 +165,15 @@ module _ (alias : ℕ) (past : List Timed) (st : State) (now t : ℕ) (inv : Agr
       }
   next loneTick most = record { agrees = moved loneTick _ at-time; event = refl }
 
+-- the same where the call comes any time later and nothing is unfinished
+next-call : (alias : ℕ) (past : List Timed) (st : State) (now : ℕ) → Agrees st now (bookOf alias past) → (c : Timed) → MayFollow now (moment (c .time) (λ s. bookOf alias past s .book)) →
+    unfinishedBelow 4096 (λ x. bookOf alias (past ++ c ∷ []) x .book) ≤ 8 → Next alias past c st
+next-call alias past st now inv c m most =
+    caught-up now (c .time) (λ s. bookOf alias past s .book) (st .places) (λ s. ap isUnfinished (sym (inv .same s)) ∙ unfinished-is s (st .places) (st .pool)) m
+    (λ f. next alias past st now (c .time) inv f (c .input) most)
+    (λ f n. next alias past st (c .time) (c .time)
+    (record { good = inv .good; sized = inv .sized; same = inv .same; dated = none-dated AnyTime _ (c .time) (st .places) n }) f (c .input) most)
+
 -- ---- the list of calls
 
 module _ {C H W A : Type 0} (heard : C → Timed) (Fine : C → Type 0) (Fit : W → Type 0) (b7 : H) (handle : W → List ℕ → A × W)
@@ -202,13 +213,13 @@ module _ {C H W A : Type 0} (heard : C → Timed) (Fine : C → Type 0) (Fit : W
       same st w c t h ∙ input-is b7 handle alias st w (heard c .time) (heard c .input) (good-sound (st .places) g)
       ∙ ap (answerEvent b7 handle (taken alias (tickAt (heard c .time)) st (heard c .input) .state) w) q
 
-  all : (cs : List C) (past : List Timed) (now : ℕ) (st : State) (w : W) → Agrees st now (bookOf alias past) → Fit w → Each Fine cs → TimelyAfter now (timesOf heard cs) →
+  all : (cs : List C) (past : List Timed) (now : ℕ) (st : State) (w : W) → Agrees st now (bookOf alias past) → Fit w → Each Fine cs → InTimeAfter now (momentsAfter alias past (map heard cs)) →
       ((n : ℕ) → unfinishedBelow 4096 (λ x. bookOf alias (past ++ take n (map heard cs)) x .book) ≤ 8) →
       Result (runCalls one st w cs) w (eventsAfter alias past (map heard cs)) (bookOf alias (past ++ map heard cs))
   all [] past now st w inv t h k most = record { answers = refl; world = refl; unfinished = λ s. rw append-nil (inv .same s) }
   all (c ∷ cs) past now st w inv t h k most =
       let i : Timed = heard c in
-      let x : Next alias past i st = next alias past st now (i .time) inv (k .0) (i .input) (most 1) in
+      let x : Next alias past i st = next-call alias past st now inv i (k .0) (most 1) in
       let e : Event = inputEvent alias past (i .time) (i .input) in
       let left : State = taken alias (tickAt (i .time)) st (i .input) .state in
       let es : List Event = eventsAfter alias (past ++ i ∷ []) (map heard cs) in
@@ -227,17 +238,21 @@ module _ {C H W A : Type 0} (heard : C → Timed) (Fine : C → Type 0) (Fit : W
       let none : (s : ℕ) → _ = λ s. blank-none s (st .places) (st .pool) (start .nothing-unfinished s) in
       record {
         good = none-good (st .places) none;
-        sized = record { eight = start .eight; bytes = start .bytes };
+        sized = fresh-sized st start;
         same = start .nothing-unfinished;
         dated = none-dated AnyTime _ now (st .places) none;
       }
 
   -- calls that give what `handleInput` gives keep the order
   pub order : OrderStatement heard Fine Fit b7 handle alias one
-  order st w [] start t h k most = let r = all [] [] 0 st w (started st 0 start) t h tt most in record { answers = r .answers; world = r .world; unfinished = r .unfinished }
-  order st w (c ∷ cs) start t h k most =
+  order st w [] a =
+      let r = all [] [] 0 st w (started st 0 (a .fresh)) (a .fit) (a .fine) tt (λ n. let m = a .at-most-eight n in omega (arith, m)) in
+      record { answers = r .answers; world = r .world; unfinished = r .unfinished }
+  order st w (c ∷ cs) a =
       let now : ℕ = heard c .time in
-      let r = all (c ∷ cs) [] now st w (started st now start) t h ((omega arith, omega arith), k) most in
+      let r =
+      all (c ∷ cs) [] now st w (started st now (a .fresh)) (a .fit) (a .fine) ((omega arith, λ s e. omega arith), a .in-time)
+      (λ n. let m = a .at-most-eight n in omega (arith, m)) in
       record { answers = r .answers; world = r .world; unfinished = r .unfinished }
 
 pub join-order : JoinOrder

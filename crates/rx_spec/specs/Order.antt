@@ -4,13 +4,14 @@
 -- for it, a reply buffer for one.
 use Prim.Native.Nat.{ℕ, zero, suc, _+_, _≤_}
 use mathlib.Core.Path.{_≡_}
-use mathlib.Core.Bool.{cond}
+use mathlib.Core.Bool.{true, cond}
 use mathlib.Core.List.{List, [], _∷_, _++_, map}
 use lib.ListN.{length, take}
+use Rattle.buffer.specs.Buffer.{Each}
 use Rattle.can_frame.specs.Frame.{CanFrame}
 use Rattle.rx_spec.specs.Ticks.{tickAt}
 use Rattle.rx_spec.specs.Books.{Book, blank, isUnfinished, Event, ignored, noAnswer, refuse, finish, badState}
-use Rattle.rx_spec.specs.Times.{Input, frameInput, loneTick, Timed, Timely, bookOf, eventsOf}
+use Rattle.rx_spec.specs.Times.{Input, frameInput, loneTick, Timed, InTime, momentsOf, bookOf, eventsOf}
 use Rattle.rx_spec.specs.Reception.{State, sound, atTick, receive, unfinishedFor}
 
 -- ---- a call handled
@@ -103,8 +104,10 @@ unfinishedBelow (suc n) book = cond (isUnfinished (book n)) 1 0 + unfinishedBelo
 
 -- ---- the statement
 
--- The state that a list of calls starts from: eight places, 72 bytes for each, and nothing unfinished.
+-- The state that a list of calls starts from: one that B7 lets pass, of eight places, with 72 bytes for each, and
+-- nothing unfinished.
 pub record Fresh (st : State) : Type 0 where
+  pub passes-b7 : sound (st .places) ≡ true
   pub eight : length (st .places) ≡ 8
   pub bytes : length (st .pool) ≡ 576
   pub nothing-unfinished : (s : ℕ) → unfinishedFor st s ≡ blank
@@ -113,11 +116,6 @@ pub record Fresh (st : State) : Type 0 where
 -- bits, so it is below 4,096.
 abbrev pub AtMostEight : ℕ → List Timed → Type 0
 AtMostEight alias cs = (n : ℕ) → unfinishedBelow 4096 (λ s. bookOf alias (take n cs) s .book) ≤ 8
-
--- P of each of a list.
-abbrev pub Each : {C : Type 0} → (C → Type 0) → List C → Type 0
-Each P [] = Unit {0}
-Each P (c ∷ cs) = P c × Each P cs
 
 -- The calls, made one after the other, give the answers that the books call for, by what the calls bring and when; they
 -- leave what the finished datagrams leave; and "what the state has" for each source is what its book holds.
@@ -130,14 +128,23 @@ pub record InOrder {H W A : Type 0} (b7 : H) (handle : W → List ℕ → A × W
 abbrev pub timesOf : {C : Type 0} → (C → Timed) → List C → List ℕ
 timesOf heard cs = map (λ c. heard c .time) cs
 
--- The order statement of a call `one`, of which a book may hear what `heard` gives: for calls that are `Fine` (their
--- buffer is large enough, for one) and timely, in a world that is `Fit` (its memory has the size that the description
--- asks for, for one).
+-- What the order statement asks of the calls cs, made from the state st and the world w on, of which a book may hear
+-- what `heard` gives: that the world is `Fit` (the description has no error with its memory, for one), and each call
+-- `Fine` (its buffer is large enough, for one) and in time, "while at most eight tools are unfinished".
+pub record Orderly {C W : Type 0} (heard : C → Timed) (Fine : C → Type 0) (Fit : W → Type 0) (alias : ℕ)
+    (st : State) (w : W) (cs : List C) : Type 0 where
+  pub fresh : Fresh st
+  pub fit : Fit w
+  pub fine : Each Fine cs
+  pub in-time : InTime (momentsOf alias (map heard cs))
+  pub at-most-eight : AtMostEight alias (map heard cs)
+
+-- The order statement of a call `one`.
 abbrev pub OrderStatement :
     {C H W A : Type 0} → (C → Timed) → (C → Type 0) → (W → Type 0) → H → (W → List ℕ → A × W) → ℕ
     → (State → W → C → FrameResult H W A) → Type 0
 OrderStatement {C} {H} {W} heard Fine Fit b7 handle alias one =
-    (st : State) (w : W) (cs : List C) → Fresh st → Fit w → Each Fine cs → Timely (timesOf heard cs) → AtMostEight alias (map heard cs)
+    (st : State) (w : W) (cs : List C) → Orderly heard Fine Fit alias st w cs
     → InOrder b7 handle alias w (map heard cs) (runCalls one st w cs)
 
 -- The order statement of joining by itself, with an error of its own for B7 and each finished datagram kept as it

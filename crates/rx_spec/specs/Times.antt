@@ -1,11 +1,12 @@
 -- C-14 of document 02: what the calls of a list bring, with their times, and the book of each source alias over such a
 -- list: "each book hearing every call's time too, a drop being decided by that and its own tool's frames".
 use Prim.Native.Nat.{ℕ, _+_, _≤_, _<_}
+use mathlib.Core.Path.{_≡_}
 use mathlib.Core.Bool.{Bool, true, false, cond}
 use mathlib.Core.List.{List, [], _∷_, _++_}
 use lib.Dec.{ltb, eqb}
 use Rattle.can_frame.specs.Frame.{CanFrame, sourceOf}
-use Rattle.rx_spec.specs.Books.{Book, blank, Event, ignored, noAnswer, refuse, finish, badState, enterFrame}
+use Rattle.rx_spec.specs.Books.{Book, blank, isUnfinished, Event, ignored, noAnswer, refuse, finish, badState, enterFrame}
 
 -- ---- calls
 
@@ -22,10 +23,14 @@ pub record Timed : Type 0 where
 abbrev pub timed : ℕ → Input → Timed
 timed t i = record { time = t; input = i }
 
--- "their times, which never fall and count on past 65,535", and "fewer than 62,000 ticks between calls": the time t may
--- follow on `now`.
+-- "fewer than 62,000 ticks between calls": from `now` to t.
+abbrev pub Near : ℕ → ℕ → Type 0
+Near now t = t < now + 62000
+
+-- "their times, which never fall and count on past 65,535", and each near the one before it: the time t may follow on
+-- `now`.
 abbrev pub Follows : ℕ → ℕ → Type 0
-Follows now t = (now ≤ t) × (t < now + 62000)
+Follows now t = (now ≤ t) × Near now t
 
 -- Each of the times follows on the one before it, and the first on `now`.
 abbrev pub TimelyAfter : ℕ → List ℕ → Type 0
@@ -36,6 +41,32 @@ TimelyAfter now (t ∷ ts) = Follows now t × TimelyAfter t ts
 abbrev pub Timely : List ℕ → Type 0
 Timely [] = Unit {0}
 Timely (t ∷ ts) = TimelyAfter t ts
+
+-- ---- calls with pauses, while nothing is unfinished
+
+-- The time of a call, and what each source has unfinished before it.
+pub record Moment : Type 0 where
+  pub time : ℕ
+  pub unfinished : ℕ → Book
+
+abbrev pub moment : ℕ → (ℕ → Book) → Moment
+moment t book = record { time = t; unfinished = book }
+
+-- The call at the moment m may follow on one at the time `now`: times "never fall", and it comes near that one where
+-- any source has something unfinished. Where none has, any time may pass: the paper asks for fewer than 62,000 ticks
+-- there too, so what is shown under this assumption is shown under the paper's.
+abbrev pub MayFollow : ℕ → Moment → Type 0
+MayFollow now m = (now ≤ m .time) × ((s : ℕ) → isUnfinished (m .unfinished s) ≡ true → Near now (m .time))
+
+-- Each of the calls may follow on the one before it, and the first on `now`.
+abbrev pub InTimeAfter : ℕ → List Moment → Type 0
+InTimeAfter now [] = Unit {0}
+InTimeAfter now (m ∷ ms) = MayFollow now m × InTimeAfter (m .time) ms
+
+-- The first may come at any time.
+abbrev pub InTime : List Moment → Type 0
+InTime [] = Unit {0}
+InTime (m ∷ ms) = InTimeAfter (m .time) ms
 
 -- ---- a book and its time
 
@@ -86,6 +117,15 @@ hearCalls alias s b (c ∷ cs) = hearCalls alias s (hearCall alias s c b) cs
 -- book of s after the calls.
 unfoldable pub bookOf : ℕ → List Timed → ℕ → DatedBook
 bookOf alias cs s = hearCalls alias s startBook cs
+
+-- The moments of calls behind `past`, by the books: each with what they hold before it.
+abbrev pub momentsAfter : ℕ → List Timed → List Timed → List Moment
+momentsAfter alias past [] = []
+momentsAfter alias past (c ∷ cs) =
+    moment (c .time) (λ s. bookOf alias past s .book) ∷ momentsAfter alias (past ++ c ∷ []) cs
+
+abbrev pub momentsOf : ℕ → List Timed → List Moment
+momentsOf alias cs = momentsAfter alias [] cs
 
 -- ---- what the books call for
 

@@ -1,25 +1,28 @@
 // The reception state: eight places, of eight lent bytes each; the bytes of the unfinished datagrams lie in a lent
-// pool, 72 for each place. Its rules, the order statement and what is proved of datagrams that grow old, and of frames
-// that are swallowed, are in specs/, and hold of the definitions alone.
+// pool, 72 for each place. Its rules, the order statement and what is proved of datagrams that grow old, and of one tool
+// and its book, are in specs/, and hold of the definitions alone.
 ghost use mathlib.Core.Path.{_≡_};
 ghost use mathlib.Core.List.{List};
+ghost use lib.ListN.{length};
 ghost use Prim.Native.Nat.{ℕ};
 ghost use Rattle.rx_spec.specs.Books.{blank};
 ghost use Rattle.rx_spec.specs.Reception.{emptyPlaces, unfinishedFor};
 ghost use Rattle.rx_spec.specs.PlaceBytes.{placesIn, stateIn, startBytes};
-ghost use Rattle.rx_spec.specs.Order.{JoinOrder};
+ghost use Rattle.rx_spec.specs.Order.{Fresh, JoinOrder};
 ghost use Rattle.rx_spec.specs.Aging.{JoinAging};
-ghost use Rattle.rx_spec.specs.Swallowing.{JoinRejection};
+ghost use Rattle.rx_spec.specs.OneSource.{JoinOneSource, OneRejection};
 
-// The places at the start: nobody has an unfinished datagram, whatever the pool holds. From there frames are joined in
-// their order.
+// The places at the start: nobody has an unfinished datagram, whatever the pool holds, so that the order statement
+// starts from there. From there frames are joined in their order.
 pub fn new_places() -> [u8; 64]
     ensures bytes { λ r. ⌜ r ≡ startBytes ⌝ }
     ensures places { λ r. ⌜ placesIn r ≡ emptyPlaces ⌝ }
     ensures empty { λ r. ⌜ ((pool : List ℕ) (s : ℕ) → unfinishedFor (stateIn r pool) s ≡ blank) ⌝ }
+    ensures fresh { λ r. ⌜ ((pool : List ℕ) → length pool ≡ 576 → Fresh (stateIn r pool)) ⌝ }
     ensures order { λ _. ⌜ JoinOrder ⌝ }
     ensures aging { λ _. ⌜ JoinAging ⌝ }
-    ensures rejection { λ _. ⌜ JoinRejection ⌝ }
+    ensures source { λ _. ⌜ JoinOneSource ⌝ }
+    ensures rejection { λ _. ⌜ OneRejection ⌝ }
 {
     [0u8; 64]
 }

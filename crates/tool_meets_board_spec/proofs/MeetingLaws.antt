@@ -8,6 +8,7 @@ use mathlib.Core.Option.{some}
 use native.Mathlib.Omega.{arith}
 use lib.Dec.{eqb}
 use lib.ListN.{length, length-take, length-drop}
+use Rattle.buffer.specs.Buffer.{Each}
 use Rattle.buffer.proofs.Choice.{cond-elim, cond-map, by-test}
 use Rattle.buffer.specs.BigEndian.{twoBytes}
 use Rattle.can_frame.specs.declared.Frame.{Frame}
@@ -15,7 +16,6 @@ use Rattle.can_frame.specs.Frame.{frameOf}
 use Rattle.tx_cut_spec.specs.Cutting.{aliases}
 use Rattle.tx_transport.specs.Transport.{receivedOk, rejectedWith}
 use Rattle.node_send.specs.Sending.{transportFrames}
-use Rattle.rx_spec.specs.Order.{Each}
 use Rattle.tool_read_ack.specs.Receipt.{readReceived, readRejection}
 use Rattle.tool_read_ack.specs.declared.ReceivedIn.the-variants.{Received}
 use Rattle.tool_read_ack.specs.declared.RejectionIn.the-variants.{Rejection}

@@ -7,6 +7,7 @@ use mathlib.Core.List.{List}
 use mathlib.Core.Option.{Option, none, some}
 use lib.Dec.{eqb}
 use lib.ListN.{length, take, drop}
+use Rattle.buffer.specs.Buffer.{Each}
 use Rattle.can_frame.specs.declared.Frame.{Frame}
 use Rattle.cmd_fields.specs.Commands as asked
 use Rattle.cmd_fields.specs.Commands.{Request}
@@ -28,7 +29,6 @@ use Rattle.reply_answer.specs.declared.Answer.the-variants as answered
 use Rattle.exec_spec.specs.Access.{bytesRead}
 use Rattle.exec_spec.specs.Performing.{Fixed, Contents, foundIn, perform}
 use Rattle.node_send.specs.Sending.{transportFrames}
-use Rattle.rx_spec.specs.Order.{Each}
 use Rattle.tool_read_spec.specs.ReplyForms.{noText, lowest, noAddress, lowestAddress, Reply, read, readFailure, writeFailure, options, information, locked}
 use Rattle.tool_read_spec.specs.Finding.{findReply, replyFound}
 use Rattle.tool_read_ack.specs.Receipt.{readReceived, readRejection}

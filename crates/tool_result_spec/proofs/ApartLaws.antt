@@ -1,4 +1,4 @@
--- The numbers of a reply stand for it alone.
+-- The numbers of a reply stand for it alone, and kind 0 for W3 alone.
 -- Assumes nothing.
 use mathlib.Core.Path.{_≡_, refl}
 use Rattle.cmd_fields.specs.declared.Form.{Form}
@@ -7,8 +7,9 @@ use Rattle.tool_read_spec.specs.declared.TextIn.{TextIn}
 use Rattle.tool_read_spec.specs.declared.TextIn.the-variants.{NoText, TextAt}
 use Rattle.tool_read_spec.specs.declared.LowestIn.the-variants.{NoLowest, LowestSpace}
 use Rattle.tool_read_spec.specs.declared.AddressIn.the-variants.{NoAddress, AddressIs}
+use Rattle.tool_read_spec.specs.declared.ReplyIn.{ReplyIn}
 use Rattle.tool_read_spec.specs.declared.ReplyIn.the-variants as found
-use Rattle.tool_result_spec.specs.Numbers.{formNumber, textRange, fieldsOfReply, formIs, textIs, replyIs, ToldApart}
+use Rattle.tool_result_spec.specs.Numbers.{formNumber, textRange, fieldsOfReply, replyRefusal, refusalIn, formIs, textIs, replyIs, ToldApart}
 
 form-back : (form : Form) → formIs (formNumber form) ≡ form
 form-back NoSpace = refl
@@ -33,3 +34,14 @@ told-apart (found.Options commands lengths highest (LowestSpace space name)) = r
 told-apart (found.Information present space highest flags NoAddress description) = rw (text-back description)
 told-apart (found.Information present space highest flags (AddressIs low) description) = rw (text-back description)
 told-apart (found.Locked start n) = refl
+
+pub reply-refusal : (r : ReplyIn) → refusalIn (fieldsOfReply r) ≡ replyRefusal r
+unfolding fieldsOfReply
+reply-refusal found.NoReply = refl
+reply-refusal (found.Read form space address start n) = refl
+reply-refusal (found.ReadFailure form space address code message) = refl
+reply-refusal (found.WriteDone form space address) = refl
+reply-refusal (found.WriteFailure form space address code message) = refl
+reply-refusal (found.Options commands lengths highest low) = refl
+reply-refusal (found.Information present space highest flags low description) = refl
+reply-refusal (found.Locked start n) = refl

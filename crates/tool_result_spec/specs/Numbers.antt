@@ -27,18 +27,38 @@ use Rattle.tool_result_spec.specs.declared.OptionsFields.{OptionsFields}
 use Rattle.tool_result_spec.specs.declared.InformationFields.{InformationFields}
 use Rattle.tool_result_spec.specs.declared.ReplyFields.{ReplyFields}
 
--- ---- W1 and W2, or the command's length
+-- ---- the refusals of C-12
 
+-- Document 01: "Every number is given in the cases stated here and in no other."
+pub data ToolRefusal : Type 0 where
+  w1 : ToolRefusal
+  w2 : ToolRefusal
+  w3 : ToolRefusal
+  notRefused : ToolRefusal
+
+-- The paper's number of each, and 0 where nothing is refused.
+abbrev pub numberOf : ToolRefusal → ℕ
+numberOf w1 = 1
+numberOf w2 = 2
+numberOf w3 = 3
+numberOf notRefused = 0
+
+-- ---- a command
+
+-- "The writer refuses with W1 a count or length out of range, then with W2 a lent buffer under 72 bytes"; else the
+-- command's length.
 abbrev pub composedOf : CommandWritten → Composed
-composedOf OutOfRange = record { refusal = 1; length = 0 }
-composedOf NoRoom = record { refusal = 2; length = 0 }
-composedOf (Length n) = record { refusal = 0; length = n }
+composedOf OutOfRange = record { refusal = numberOf w1; length = 0 }
+composedOf NoRoom = record { refusal = numberOf w2; length = 0 }
+composedOf (Length n) = record { refusal = numberOf notRefused; length = n }
 
--- ---- Received OK and Rejected, or W3
+-- ---- Received OK and Rejected
 
+-- "the reader gives W3 for a Received OK over 1 byte .. and for all else every field"
 abbrev pub acknowledgedOf : ReceivedIn → Acknowledged
-acknowledgedOf NotReceived = record { refusal = 3; pending = false; timeout = 0 }
-acknowledgedOf (Received pending timeout) = record { refusal = 0; pending = pending; timeout = timeout }
+acknowledgedOf NotReceived = record { refusal = numberOf w3; pending = false; timeout = 0 }
+acknowledgedOf (Received pending timeout) =
+    record { refusal = numberOf notRefused; pending = pending; timeout = timeout }
 
 abbrev pub noRange : ByteRange
 noRange = record { given = false; start = 0; length = 0 }
@@ -46,9 +66,10 @@ noRange = record { given = false; start = 0; length = 0 }
 abbrev pub rangeAt : ℕ → ℕ → ByteRange
 rangeAt start n = record { given = true; start = start; length = n }
 
+-- W3 for "a Rejected over 66", and for all else every field.
 abbrev pub rejectionOf : RejectionIn → RejectionFields
-rejectionOf NotRejection = record { refusal = 3; code = 0; further = noRange }
-rejectionOf (Rejection code start n) = record { refusal = 0; code = code; further = rangeAt start n }
+rejectionOf NotRejection = record { refusal = numberOf w3; code = 0; further = noRange }
+rejectionOf (Rejection code start n) = record { refusal = numberOf notRefused; code = code; further = rangeAt start n }
 
 -- ---- replies
 
@@ -105,6 +126,21 @@ fieldsOfReply (found.Options commands lengths highest low) = aboutFields 5 0 (op
 fieldsOfReply (found.Information present space highest flags low description) =
     aboutFields 6 space noOptions (informationOf present highest flags low) (textRange description)
 fieldsOfReply (found.Locked start n) = aboutFields 7 0 noOptions noInformation (rangeAt start n)
+
+-- W3 for "bytes in no reply form of source document 000 for these commands", and for no others.
+abbrev pub replyRefusal : ReplyIn → ToolRefusal
+replyRefusal found.NoReply = w3
+replyRefusal (found.Read form space address start n) = notRefused
+replyRefusal (found.ReadFailure form space address code message) = notRefused
+replyRefusal (found.WriteDone form space address) = notRefused
+replyRefusal (found.WriteFailure form space address code message) = notRefused
+replyRefusal (found.Options commands lengths highest low) = notRefused
+replyRefusal (found.Information present space highest flags low description) = notRefused
+replyRefusal (found.Locked start n) = notRefused
+
+-- A reply has no field for a refusal: W3 is its kind 0.
+abbrev pub refusalIn : ReplyFields → ToolRefusal
+refusalIn f = cond (eqb (f .kind) 0) w3 notRefused
 
 -- ---- no blank stands for something
 

@@ -1,3 +1,4 @@
 pub mod Examples
 pub mod WritesLaws
+pub mod OnlyLaws
 pub mod WritingLaws

@@ -16,12 +16,12 @@ use Rattle.cmd_fields.proofs.Laws.{is-within, pairs-length}
 use Rattle.tool_write_spec.specs.Writing.{opening, commandFor, inRange, Writing, w1, w2, command, writing, commandAnswer, commandBuffer, CommandWrites}
 use Rattle.tool_write_spec.specs.declared.CommandWritten.{CommandWritten}
 use Rattle.tool_write_spec.specs.declared.CommandWritten.the-variants.{OutOfRange, NoRoom, Length}
-use Rattle.tool_write_spec.proofs.WritingLaws.{bounds, pairs-bounds, bytes-back, one-form, all-in-range}
+use Rattle.tool_write_spec.proofs.WritingLaws.{bounds, pairs-bounds, bytes-back}
 
 module _ {whole : Bool} {q : Request} {before : List ℕ} where
   writes : {r : CommandWritten} {after : List ℕ} (w : Writing) → writing whole q (length before) ≡ w → r ≡ commandAnswer w → after ≡ commandBuffer w before →
       CommandWrites whole q r before after
-  writes w e a b = record { answer = rw e a; buffer = rw e b; oneForm = one-form q; allInRange = all-in-range }
+  writes w e a b = record { answer = rw e a; buffer = rw e b }
 
   -- W1: a count or length out of range
   pub writes-w1 : (whole && inRange q) ≡ false → CommandWrites whole q OutOfRange before before

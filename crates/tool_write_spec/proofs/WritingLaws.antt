@@ -20,7 +20,7 @@ use Rattle.cmd_fields.specs.declared.Kind.the-variants.{Read, Write, WriteMaske
 use Rattle.cmd_fields.proofs.Laws.{is-read, is-write, is-masked, is-within, rest-is, pairs-length}
 use Rattle.cmd_decode.specs.Decoding.{Reading, rejected, request, orWrong, countOf, decodeRead, decodeWrite, decodeMasked, decodeKind, decode}
 use Rattle.cmd_decode.proofs.Laws.{Allowed, AllowedIn, allowed, decode-command}
-use Rattle.tool_write_spec.specs.Writing.{formFor, opening, pairBytes, commandFor, inRange, OneForm, formWritten, AllInRange}
+use Rattle.tool_write_spec.specs.Writing.{formFor, opening, pairBytes, commandFor, inRange, formWritten, AllInRange}
 
 -- ---- the form for a space
 
@@ -35,7 +35,7 @@ by-space P fd fe ff other s =
 pub by-byte-6 : (s : ℕ) → (s ≡ 0xFD → ⊥) → (s ≡ 0xFE → ⊥) → (s ≡ 0xFF → ⊥) → formFor s ≡ Byte6
 by-byte-6 s fd fe ff = rw (ne-eqb s 0xFD fd, ne-eqb s 0xFE fe, ne-eqb s 0xFF ff)
 
-bits-small : (s : ℕ) → formBits (formFor s) ≤ 3
+pub bits-small : (s : ℕ) → formBits (formFor s) ≤ 3
 bits-small = by-space (λ s f. formBits f ≤ 3) (omega arith) (omega arith) (omega arith) (λ s. omega arith)
 
 pub head-small : (s : ℕ) → headLength (formFor s) ≤ 7
@@ -74,7 +74,7 @@ module _ (command s a : ℕ) where
   opening-length = by-space (λ s f. length (0x20 ∷ 0 ∷ (bytesOf a ++ spaceByte f s)) ≡ headLength f) refl refl refl (λ s. refl) s
 
   module _ (content : List ℕ) where
-    abbrev datagram : List ℕ
+    abbrev pub datagram : List ℕ
     datagram = opening command s a ++ content
 
     size : length datagram ≡ headLength (formFor s) + length content
@@ -89,11 +89,11 @@ module _ (command s a : ℕ) where
     space = by-space (λ s f. spaceOf f (0x20 ∷ (command + formBits f) ∷ (bytesOf a ++ spaceByte f s) ++ content) ≡ s) refl refl refl (λ s. refl) s
 
     module _ (m : command % 4 ≡ 0) (l : command ≤ 0x40) where
-      form : formIn datagram ≡ formFor s
+      pub form : formIn datagram ≡ formFor s
       unfolding opening
       form = form-said command m l s
 
-      rest : restOf datagram ≡ content
+      pub rest : restOf datagram ≡ content
       rest = rest-is datagram ∙ rw form (drop-at (opening command s a) content (headLength (formFor s)) opening-length)
 
       decoded : length content ≤ 64 → decode datagram ≡ decodeKind (kindOfCommand (command + formBits (formFor s))) datagram
@@ -116,7 +116,7 @@ pairs-bounds n e =
     let b = bounds 1 64 n (and-left (within 1 64 n) (eqb (n % 2) 0) e) in
     (b .0, b .1, eqb-true (n % 2) 0 (and-right (within 1 64 n) (eqb (n % 2) 0) e))
 
-read-back : (q : Request) → inRange q ≡ true → decode (commandFor q) ≡ request (formWritten q) q
+pub read-back : (q : Request) → inRange q ≡ true → decode (commandFor q) ≡ request (formWritten q) q
 unfolding inRange commandFor decode decodeKind kindOfCommand decodeRead decodeWrite decodeMasked
 read-back (read s a n) h =
     let b = bounds _ _ n h in
@@ -182,7 +182,7 @@ with-address command a content d h r c =
     let n : length (restOf d) ≡ length d - headLength (formIn d) = rw (rest-is d) (length-drop (headLength (formIn d)) d) in
     omega (arith, size command (spaceOf (formIn d) d) a content, head-least d h)
 
-abbrev NoShorter : List ℕ → Reading → Type 0
+abbrev pub NoShorter : List ℕ → Reading → Type 0
 NoShorter d (rejected code) = Unit {0}
 NoShorter d (request f q) = length (commandFor q) ≤ length d
 
@@ -204,7 +204,7 @@ kind-shortest d Lock h = cond-elim (NoShorter d) (eqb (length d) 8) (λ e. omega
 kind-shortest d UpdateComplete h = cond-elim (NoShorter d) (eqb (length d) 2) (λ e. omega (arith, eqb-true (length d) 2 e)) (λ _. tt)
 kind-shortest d Unknown h = tt
 
-none-shorter : (d : List ℕ) → NoShorter d (decode d)
+pub none-shorter : (d : List ℕ) → NoShorter d (decode d)
 unfolding decode
 none-shorter d =
     cond-elim (NoShorter d) (eqb (length d) 0 || ltb 72 (length d)) {a = rejected 0x1080} (λ _. tt)
@@ -212,7 +212,7 @@ none-shorter d =
     (λ _. cond-elim (NoShorter d) (eqb (length d) 1) {a = rejected 0x1080} {b = decodeKind (kindOfCommand (getD d 1 0)) d} (λ _. tt)
     (λ _. kind-shortest d (kindOfCommand (getD d 1 0)) (low (getD d 1 0)))))
 
--- ---- the theorems
+-- ---- in range
 
 -- what the board allows is in range
 in-range : (q : Request) → Allowed q → inRange q ≡ true
@@ -227,10 +227,3 @@ in-range updateComplete h = refl
 
 pub all-in-range : AllInRange
 all-in-range d form q e = in-range q (subst AllowedIn e (allowed d))
-
-pub one-form : (q : Request) → inRange q ≡ true → OneForm q
-one-form q h = record {
-  readBack = read-back q h;
-  unlike = λ p g e. let a = read-back p g in let b = read-back q h in let c = ap decode e in cc;
-  shortest = λ d form e. subst (NoShorter d) e (none-shorter d);
-}

@@ -1,16 +1,18 @@
 -- Document 02, C-12: "a writer for every command in document 01, in one form only".
 use Prim.Native.Nat.{ℕ, _+_, _≤_}
 use mathlib.Core.Path.{_≡_}
-use mathlib.Core.Bool.{Bool, true, cond, _&&_}
+use mathlib.Core.Bool.{Bool, true, cond, not, _&&_}
 use mathlib.Core.List.{List, [], _∷_, _++_}
-use lib.Dec.{leb, eqb}
-use lib.ListN.{length}
-use Rattle.buffer.specs.Buffer.{over}
+use lib.Dec.{leb, ltb, eqb}
+use lib.ListN.{length, getD}
+use Rattle.buffer.specs.Buffer.{over, AllBytes}
 use Rattle.buffer.specs.BigEndian.{bytesOf}
 use Rattle.cmd_limits.specs.Limits.{countFits, bytesFit}
-use Rattle.cmd_fields.specs.Commands.{Pair, Request, read, write, writeMasked, options, information, reserve, updateComplete, formBits, spaceByte}
+use Rattle.cmd_fields.specs.Commands.{Pair, Request, read, write, writeMasked, options, information, reserve, updateComplete, within, kindOfCommand, formBits, spaceByte, formIn, restOf}
 use Rattle.cmd_fields.specs.declared.Form.{Form}
 use Rattle.cmd_fields.specs.declared.Form.the-variants.{NoSpace, Byte6, Fd, Fe, Ff}
+use Rattle.cmd_fields.specs.declared.Kind.{Kind}
+use Rattle.cmd_fields.specs.declared.Kind.the-variants.{Read, Write, WriteMasked, Options, Information, Lock, UpdateComplete, Unknown}
 use Rattle.cmd_decode.specs.Decoding.{request, decode}
 use Rattle.tool_write_spec.specs.declared.CommandWritten.{CommandWritten}
 use Rattle.tool_write_spec.specs.declared.CommandWritten.the-variants.{OutOfRange, NoRoom, Length}
@@ -63,6 +65,33 @@ pub data Writing : Type 0 where
 unfoldable pub writing : Bool → Request → ℕ → Writing
 writing whole q room = cond (whole && inRange q) (cond (leb 72 room) (command (commandFor q)) w2) w1
 
+-- ---- the one form, said of a datagram and not of the writer
+
+-- "spaces 0xFD to 0xFF by the control bits, others by byte 6": byte 6 names none of the three. The control bits can
+-- name no other space.
+abbrev pub spaceInForm : Form → ℕ → Bool
+spaceInForm NoSpace byte6 = true
+spaceInForm Byte6 byte6 = not (within 0xFD 0xFF byte6)
+spaceInForm Fd byte6 = true
+spaceInForm Fe byte6 = true
+spaceInForm Ff byte6 = true
+
+-- "reserved bits zero". The commands of document 01 have one such bit: of a read's count byte, "its top bit is
+-- ignored".
+abbrev pub reservedZero : Kind → ℕ → Bool
+reservedZero Read count = ltb count 128
+reservedZero Write content = true
+reservedZero WriteMasked content = true
+reservedZero Options content = true
+reservedZero Information content = true
+reservedZero Lock content = true
+reservedZero UpdateComplete content = true
+reservedZero Unknown content = true
+
+-- Whether a datagram is in the one form: both, by its own bytes. A read's count is the first byte that remains.
+unfoldable pub inOneForm : List ℕ → Bool
+inOneForm d = spaceInForm (formIn d) (getD d 6 0) && reservedZero (kindOfCommand (getD d 1 0)) (getD (restOf d) 0 0)
+
 -- ---- what holds of the one form
 
 -- The form that names the space of a request's command.
@@ -84,10 +113,19 @@ pub record OneForm (q : Request) : Type 0 where
   pub unlike : (p : Request) → inRange p ≡ true → commandFor p ≡ commandFor q → p ≡ q
   -- "Of the forms the board accepts for a request, none is shorter than the writer's."
   pub shortest : (d : List ℕ) (form : Form) → decode d ≡ request form q → length (commandFor q) ≤ length d
+  -- "in one form only": the writer's bytes are in that form,
+  pub inForm : inOneForm (commandFor q) ≡ true
+  -- and no other bytes that the board reads as the request are.
+  pub only : (d : List ℕ) (form : Form) → AllBytes d → decode d ≡ request form q → inOneForm d ≡ true → d ≡ commandFor q
 
 -- Whatever the board reads as a request is in range: the writer writes it.
 abbrev pub AllInRange : Type 0
 AllInRange = (d : List ℕ) (form : Form) (q : Request) → decode d ≡ request form q → inRange q ≡ true
+
+-- "For each request with lengths in range", whether or not a function of the code writes it.
+pub record EveryRequest : Type 0 where
+  pub oneForm : (q : Request) → inRange q ≡ true → OneForm q
+  pub allInRange : AllInRange
 
 -- ---- what the code gives back
 
@@ -103,10 +141,7 @@ commandBuffer w1 buffer = buffer
 commandBuffer w2 buffer = buffer
 commandBuffer (command bytes) buffer = over bytes buffer
 
--- The answer r and the buffer `after` are what comes of writing q, over the buffer `before`; and what holds of its one
--- form.
+-- The answer r and the buffer `after` are what comes of writing q, over the buffer `before`.
 pub record CommandWrites (whole : Bool) (q : Request) (r : CommandWritten) (before after : List ℕ) : Type 0 where
   pub answer : r ≡ commandAnswer (writing whole q (length before))
   pub buffer : after ≡ commandBuffer (writing whole q (length before)) before
-  pub oneForm : inRange q ≡ true → OneForm q
-  pub allInRange : AllInRange

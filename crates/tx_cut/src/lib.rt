@@ -6,7 +6,7 @@ ghost use lib.ListN.{length};
 ghost use Rattle.buffer.specs.Lent.{before, after};
 ghost use Rattle.buffer.specs.Buffer.{over, putAt};
 ghost use Rattle.can_frame_bytes.specs.Layout.{framesBytes};
-ghost use Rattle.tx_cut_spec.specs.Cutting.{cutFrames, CutJoins};
+ghost use Rattle.tx_cut_spec.specs.Cutting.{cutFrames, RefusedBy, CutJoins};
 
 mod cut;
 
@@ -39,6 +39,7 @@ pub fn cut_datagram(datagram: &[u8], destination: u16, source: u16, frames: &mut
     ensures bytes { λ _.
         ⌜ after frames ≡ over (framesBytes (cutFrames (before datagram) destination source)) (before frames) ⌝ }
     ensures joins { λ _. ⌜ CutJoins ⌝ }
+    ensures refusal { λ r. ⌜ RefusedBy (before datagram) destination source r ⌝ }
 {
     cut_from(datagram, destination, source, frames, 0)
 }

@@ -2,17 +2,17 @@
 -- Assumes nothing.
 use Prim.Native.Nat.{ℕ, _+_, _-_, _*_, _≤_, _<_}
 use mathlib.Core.Path.{_≡_, refl, _∙_}
-use mathlib.Core.Bool.{true, false, cond, _&&_}
+use mathlib.Core.Bool.{Bool, true, false, cond, _&&_}
 use mathlib.Core.List.{List, [], _∷_}
 use native.Mathlib.Nat.{le-of-eq}
 use native.Mathlib.Omega.{arith}
 use lib.Dec.{leb}
 use lib.ListN.{length, take, drop, length-drop}
 use lib.Seq.{take-all}
-use borrow.Author.Tests.{le-leb, lt-leb, leb-true, leb-false}
+use borrow.Author.Tests.{le-leb, lt-leb, leb-true, leb-false, ne-eqb}
 use Rattle.buffer.proofs.Choice.{cond-elim, and-left, and-right}
 use Rattle.can_frame.specs.declared.Frame.{Frame}
-use Rattle.tx_cut_spec.specs.Cutting.{single, first, middle, last, restFrames, framesOf, aliases, cutFrames}
+use Rattle.tx_cut_spec.specs.Cutting.{single, first, middle, last, restFrames, framesOf, aliases, b9, notRefused, numberOf, cutFrames, refusalIn, RefusedBy}
 
 -- ---- two aliases
 
@@ -119,6 +119,19 @@ module _ (d s : ℕ) (xs : List ℕ) where
   cut-fits e =
       let both = and-right (leb (length xs) 72) (aliases d s) e in
       (aliases-left d s both, aliases-right d s both, frames-few (leb-true (length xs) 72 (and-left (leb (length xs) 72) (aliases d s) e)))
+
+  -- some frame is made of what B9 lets pass
+  pub frames-some : 0 < length (framesOf d s xs)
+  unfolding framesOf
+  frames-some = cond-elim (λ (fs : List Frame). 0 < length fs) (leb (length xs) 8) (λ _. omega arith) (λ _. omega arith)
+
+  pub refused-by : {count : ℕ} → count ≡ length (cutFrames xs d s) → RefusedBy xs d s count
+  unfolding cutFrames
+  refused-by e = rw e (go (leb (length xs) 72 && aliases d s))
+    where
+      go : (t : Bool) → numberOf (refusalIn (length (cond t (framesOf d s xs) []))) ≡ numberOf (cond t notRefused b9)
+      go true = rw (ne-eqb (length (framesOf d s xs)) 0 (λ z. omega (arith, frames-some)))
+      go false = refl
 
   pub cut-is : length xs ≤ 72 → aliases d s ≡ true → cutFrames xs d s ≡ framesOf d s xs
   unfolding cutFrames

@@ -11,6 +11,7 @@ use lib.Dec.{leb, eqb}
 use lib.ListN.{length, take, drop, replicate, length-append, length-drop, take-append-drop}
 use lib.Seq.{length-take-le, take-append-seam}
 use borrow.Author.Tests.{le-leb, leb-true, leb-false, ne-eqb, not-true}
+use Rattle.buffer.specs.Buffer.{Each}
 use Rattle.buffer.proofs.Choice.{clash}
 use Rattle.can_frame.specs.declared.Frame.{Frame}
 use Rattle.can_frame.specs.declared.Role.{Role}
@@ -22,7 +23,6 @@ use Rattle.rx_spec.specs.Ticks.{age}
 use Rattle.rx_spec.specs.Books.{Book, blank, holds, swallowing, Event, noAnswer, finish, Entry, entry, fits, bookRule}
 use Rattle.rx_spec.specs.Times.{frameInput, isAccepted}
 use Rattle.rx_spec.specs.Reception.{State, isFor, unfinishedFor, full, atTick, Joined, receive, receiveAll}
-use Rattle.rx_spec.specs.Order.{Each}
 use Rattle.tx_cut_spec.specs.Cutting.{single, first, middle, last, restFrames, framesOf, cutFrames, carried, PromptAfter, Prompt, mayBegin, CutJoins}
 use Rattle.rx_spec.proofs.PlaceLaws.{Good, sound-good, good-sound}
 use Rattle.rx_spec.proofs.StepLaws.{Sized, Step, entryOf, with-room}

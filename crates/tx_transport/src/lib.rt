@@ -8,7 +8,7 @@ ghost use Rattle.buffer.specs.Lent.{before, after};
 ghost use Rattle.buffer.specs.Buffer.{over};
 ghost use Rattle.can_frame.specs.Frame.{frameOf};
 ghost use Rattle.can_frame_bytes.specs.Layout.{framesBytes};
-ghost use Rattle.tx_cut_spec.specs.Cutting.{cutFrames};
+ghost use Rattle.tx_cut_spec.specs.Cutting.{cutFrames, RefusedBy};
 ghost use Rattle.tx_transport.specs.Transport.{transportReply, receivedOk, rejectedWith};
 
 // The headers of the transport replies, without the board's alias.
@@ -66,6 +66,7 @@ pub fn received_ok_then(
 pub fn cut_reply(board: u16, tool: u16, reply: &[u8], frames: &mut [u8; 160]) -> usize
     ensures count { λ r. ⌜ r ≡ length (cutFrames (before reply) tool board) ⌝ }
     ensures bytes { λ _. ⌜ after frames ≡ over (framesBytes (cutFrames (before reply) tool board)) (before frames) ⌝ }
+    ensures refusal { λ r. ⌜ RefusedBy (before reply) tool board r ⌝ }
 {
     tx_cut::cut_datagram(reply, tool, board, frames)
 }

@@ -38,8 +38,8 @@ static int send_changes(uint8_t space, uint32_t address, const struct image *bef
     uint8_t pairs[BUJORELM_PAIRS_MIN];
     struct bujorelm_change change = bujorelm_next_change(before->bytes, before->len, after->bytes, after->len, 0, pairs, sizeof pairs);
 
-    if (change.refusal != BUJORELM_REFUSAL_NONE) {
-        fprintf(stderr, "W%d: images of %zu and %zu bytes, and %zu bytes for the pairs\n", change.refusal, before->len, after->len, sizeof pairs);
+    if (change.refusal != BUJORELM_CHANGE_NOT_REFUSED) {
+        fprintf(stderr, "refused: images of %zu and %zu bytes, and %zu bytes for the pairs\n", before->len, after->len, sizeof pairs);
         return 2;
     }
     if (!change.given) {

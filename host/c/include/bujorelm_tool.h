@@ -39,17 +39,25 @@ extern "C" {
 
 /* ---- Numbers ---- */
 
-/* The refusals of C-12, and those of bujorelm_next_change, which has the same numbers for the same kinds of mistake. */
+/* The refusals of C-12, which the writer and the readers give: `refusal` in the structs of these. */
 enum bujorelm_refusal {
     BUJORELM_REFUSAL_NONE = 0,
     /* Of the writer: a count that is not 1 to 64, a write of no bytes or of more than 64, a masked write of no pair or of more than 32, an odd
-       number of bytes for pairs, an ID that has not six bytes. Of bujorelm_next_change: two images of different length. */
+       number of bytes for pairs, an ID that has not six bytes. */
     BUJORELM_REFUSAL_W1 = 1,
-    /* Of the writer, tested behind W1: a buffer of fewer than 72 bytes, whichever command it is for. Of bujorelm_next_change, tested behind W1
-       too: one of fewer than 64 bytes, whether or not there is a change. */
+    /* Of the writer, tested behind W1: a buffer of fewer than 72 bytes, whichever command it is for. */
     BUJORELM_REFUSAL_W2 = 2,
     /* Of the readers: a Received OK of more than 1 byte, a Rejected of more than 66, or a datagram in no form of a reply. */
     BUJORELM_REFUSAL_W3 = 3
+};
+
+/* The refusals of bujorelm_next_change: `refusal` in struct bujorelm_change. They are its own, and none of C-12's. */
+enum bujorelm_change_refusal {
+    BUJORELM_CHANGE_NOT_REFUSED = 0,
+    /* The two images are of different length. */
+    BUJORELM_CHANGE_REFUSED_LENGTHS = 1,
+    /* Tested behind that: the buffer for the pairs has fewer than 64 bytes, whether or not there is a change. */
+    BUJORELM_CHANGE_REFUSED_ROOM = 2
 };
 
 /* The replies: `kind` in struct bujorelm_reply. */
@@ -179,10 +187,10 @@ struct bujorelm_pair {
     uint8_t data;
 };
 
-/* The next masked write: W1, W2, or none; whether there is one; and if so, the index of its first byte in the images and the number of its pairs,
-   1 to 32. */
+/* The next masked write: whether it is refused; whether there is one; and if so, the index of its first byte in the images and the number of its
+   pairs, 1 to 32. */
 struct bujorelm_change {
-    enum bujorelm_refusal refusal;
+    enum bujorelm_change_refusal refusal;
     bool given;
     size_t start;
     size_t count;
@@ -356,7 +364,7 @@ struct bujorelm_pair bujorelm_put_together(struct bujorelm_pair earlier, struct 
  * from           the index at which to look on: 0 for the first, and then `start` + `count` of the change before
  * pairs          lent, at least 64 bytes, and need not be cleared
  *
- * Comes back: W1 or W2, or whether there is a change. It starts at the first byte at or after `from` that differs and ends with the last that
+ * Comes back: a refusal, or whether there is a change. It starts at the first byte at or after `from` that differs and ends with the last that
  * differs among the 32 bytes from there; its pairs are in front of `pairs`, 2 * `count` bytes, as bujorelm_compose_masked_write takes them. Each mask
  * has just the bits that differ. Where no byte differs at or after `from`, also where that is behind the images, none is `given`.
  *

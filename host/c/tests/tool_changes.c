@@ -265,14 +265,14 @@ static struct bujorelm_change wanted_change(const struct images *images, size_t 
     const uint8_t *const before = images->before.bytes;
     const uint8_t *const after = images->after.bytes;
     const size_t len = images->before.len;
-    struct bujorelm_change wanted = {.refusal = BUJORELM_REFUSAL_NONE, .given = false, .start = 0, .count = 0};
+    struct bujorelm_change wanted = {.refusal = BUJORELM_CHANGE_NOT_REFUSED, .given = false, .start = 0, .count = 0};
 
     if (len != images->after.len) {
-        wanted.refusal = BUJORELM_REFUSAL_W1;
+        wanted.refusal = BUJORELM_CHANGE_REFUSED_LENGTHS;
         return wanted;
     }
     if (images->room.len < 64) {
-        wanted.refusal = BUJORELM_REFUSAL_W2;
+        wanted.refusal = BUJORELM_CHANGE_REFUSED_ROOM;
         return wanted;
     }
     while (from < len && pair_between(before[from], after[from]).mask == 0) {
@@ -284,7 +284,7 @@ static struct bujorelm_change wanted_change(const struct images *images, size_t 
         pairs[2 * n] = pair.mask;
         pairs[2 * n + 1] = pair.data;
         if (pair.mask != 0) {
-            wanted = (struct bujorelm_change){.refusal = BUJORELM_REFUSAL_NONE, .given = true, .start = from, .count = n + 1};
+            wanted = (struct bujorelm_change){.refusal = BUJORELM_CHANGE_NOT_REFUSED, .given = true, .start = from, .count = n + 1};
         }
     }
     return wanted;
@@ -310,7 +310,7 @@ static struct bujorelm_change next_change(const struct images *images, size_t fr
 static struct bujorelm_change next_change_of(const uint8_t *before, size_t before_len, const uint8_t *after, size_t after_len, size_t from,
                                              size_t room_len)
 {
-    struct bujorelm_change got = {.refusal = BUJORELM_REFUSAL_NONE};
+    struct bujorelm_change got = {.refusal = BUJORELM_CHANGE_NOT_REFUSED};
 
     for (int at_start = 0; at_start < 2; at_start++) {
         struct images images = images_new(before, before_len, after, after_len, room_len, at_start == 1);
@@ -389,7 +389,7 @@ static void check_all(const uint8_t *before, const uint8_t *after, size_t len)
 
 /* ---- Refusals ---- */
 
-/* Two lengths that differ are W1, and a buffer of fewer than 64 bytes is W2 behind that, whatever the images hold and wherever one looks. */
+/* Two lengths that differ are refused, and a buffer of fewer than 64 bytes behind that, whatever the images hold and wherever one looks. */
 static void test_refusals(void)
 {
     static const size_t lens[] = {0, 1, 32, 33, 100};
@@ -405,7 +405,9 @@ static void test_refusals(void)
         const size_t len = lens[i % 5];
         const size_t after_len = lens[i / 5 % 5];
         const size_t room = rooms[i / 25];
-        const enum bujorelm_refusal refusal = len != after_len ? BUJORELM_REFUSAL_W1 : room < 64 ? BUJORELM_REFUSAL_W2 : BUJORELM_REFUSAL_NONE;
+        const enum bujorelm_change_refusal refusal = len != after_len ? BUJORELM_CHANGE_REFUSED_LENGTHS
+                                                     : room < 64      ? BUJORELM_CHANGE_REFUSED_ROOM
+                                                                      : BUJORELM_CHANGE_NOT_REFUSED;
 
         /* Nothing differs, and then every byte does. */
         CHECK(next_change_of(before, len, before, after_len, 0, room).refusal == refusal);
@@ -423,11 +425,12 @@ static void test_every_short_buffer(void)
         const bool is_short = room < 64;
 
         CHECK(next_change_of(before, 40, after, 40, 0, room).given == !is_short);
-        CHECK(next_change_of(before, 40, before, 40, 0, room).refusal == (is_short ? BUJORELM_REFUSAL_W2 : BUJORELM_REFUSAL_NONE));
+        CHECK(next_change_of(before, 40, before, 40, 0, room).refusal ==
+              (is_short ? BUJORELM_CHANGE_REFUSED_ROOM : BUJORELM_CHANGE_NOT_REFUSED));
     }
 }
 
-static bool is_refused(struct bujorelm_change change, enum bujorelm_refusal refusal)
+static bool is_refused(struct bujorelm_change change, enum bujorelm_change_refusal refusal)
 {
     return is_same_change(change, (struct bujorelm_change){.refusal = refusal, .given = false, .start = 0, .count = 0});
 }
@@ -439,13 +442,13 @@ static void test_null(void)
     const uint8_t byte = 1;
 
     memset(pairs, UNTOUCHED, sizeof pairs);
-    CHECK(is_refused(bujorelm_next_change(NULL, 0, NULL, 0, 0, pairs, 64), BUJORELM_REFUSAL_NONE));
-    CHECK(is_refused(bujorelm_next_change(NULL, 0, NULL, 0, SIZE_MAX, pairs, 64), BUJORELM_REFUSAL_NONE));
-    CHECK(is_refused(bujorelm_next_change(NULL, 0, NULL, 0, 0, NULL, 0), BUJORELM_REFUSAL_W2));
-    CHECK(is_refused(bujorelm_next_change(&byte, 1, &byte, 1, 0, NULL, 0), BUJORELM_REFUSAL_W2));
-    CHECK(is_refused(bujorelm_next_change(NULL, 0, &byte, 1, 0, pairs, 64), BUJORELM_REFUSAL_W1));
-    CHECK(is_refused(bujorelm_next_change(&byte, 1, NULL, 0, 0, pairs, 64), BUJORELM_REFUSAL_W1));
-    CHECK(is_refused(bujorelm_next_change(NULL, 0, &byte, 1, 0, NULL, 0), BUJORELM_REFUSAL_W1));
+    CHECK(is_refused(bujorelm_next_change(NULL, 0, NULL, 0, 0, pairs, 64), BUJORELM_CHANGE_NOT_REFUSED));
+    CHECK(is_refused(bujorelm_next_change(NULL, 0, NULL, 0, SIZE_MAX, pairs, 64), BUJORELM_CHANGE_NOT_REFUSED));
+    CHECK(is_refused(bujorelm_next_change(NULL, 0, NULL, 0, 0, NULL, 0), BUJORELM_CHANGE_REFUSED_ROOM));
+    CHECK(is_refused(bujorelm_next_change(&byte, 1, &byte, 1, 0, NULL, 0), BUJORELM_CHANGE_REFUSED_ROOM));
+    CHECK(is_refused(bujorelm_next_change(NULL, 0, &byte, 1, 0, pairs, 64), BUJORELM_CHANGE_REFUSED_LENGTHS));
+    CHECK(is_refused(bujorelm_next_change(&byte, 1, NULL, 0, 0, pairs, 64), BUJORELM_CHANGE_REFUSED_LENGTHS));
+    CHECK(is_refused(bujorelm_next_change(NULL, 0, &byte, 1, 0, NULL, 0), BUJORELM_CHANGE_REFUSED_LENGTHS));
     CHECK(is_untouched(pairs, 0, sizeof pairs));
 }
 
@@ -459,30 +462,30 @@ static const struct {
     size_t from;
     struct bujorelm_change wanted;
 } bounds[] = {
-    {"images without a byte", 0, {{0, 0}, {0, 0}}, 0, {BUJORELM_REFUSAL_NONE, false, 0, 0}},
-    {"equal images", 100, {{0, 0}, {0, 0}}, 0, {BUJORELM_REFUSAL_NONE, false, 0, 0}},
-    {"the only byte", 1, {{0, 1}, {0, 0}}, 0, {BUJORELM_REFUSAL_NONE, true, 0, 1}},
-    {"the first byte", 100, {{0, 1}, {0, 0}}, 0, {BUJORELM_REFUSAL_NONE, true, 0, 1}},
-    {"the last byte", 100, {{99, 100}, {0, 0}}, 0, {BUJORELM_REFUSAL_NONE, true, 99, 1}},
-    {"32 bytes", 32, {{0, 32}, {0, 0}}, 0, {BUJORELM_REFUSAL_NONE, true, 0, 32}},
-    {"behind 32 bytes", 32, {{0, 32}, {0, 0}}, 32, {BUJORELM_REFUSAL_NONE, false, 0, 0}},
-    {"33 bytes", 33, {{0, 33}, {0, 0}}, 0, {BUJORELM_REFUSAL_NONE, true, 0, 32}},
-    {"the last of 33 bytes", 33, {{0, 33}, {0, 0}}, 32, {BUJORELM_REFUSAL_NONE, true, 32, 1}},
-    {"33 bytes among others", 100, {{20, 53}, {0, 0}}, 0, {BUJORELM_REFUSAL_NONE, true, 20, 32}},
-    {"two bytes 31 apart", 100, {{10, 11}, {41, 42}}, 0, {BUJORELM_REFUSAL_NONE, true, 10, 32}},
-    {"two bytes 32 apart, the first", 100, {{10, 11}, {42, 43}}, 0, {BUJORELM_REFUSAL_NONE, true, 10, 1}},
-    {"two bytes 32 apart, the second", 100, {{10, 11}, {42, 43}}, 11, {BUJORELM_REFUSAL_NONE, true, 42, 1}},
-    {"two bytes 30 apart", 100, {{10, 11}, {40, 41}}, 0, {BUJORELM_REFUSAL_NONE, true, 10, 31}},
-    {"at the run", 100, {{10, 20}, {0, 0}}, 10, {BUJORELM_REFUSAL_NONE, true, 10, 10}},
-    {"in the middle of the run", 100, {{10, 20}, {0, 0}}, 15, {BUJORELM_REFUSAL_NONE, true, 15, 5}},
-    {"at the end of the run", 100, {{10, 20}, {0, 0}}, 19, {BUJORELM_REFUSAL_NONE, true, 19, 1}},
-    {"behind the run", 100, {{10, 20}, {0, 0}}, 20, {BUJORELM_REFUSAL_NONE, false, 0, 0}},
-    {"at the last byte", 50, {{0, 50}, {0, 0}}, 49, {BUJORELM_REFUSAL_NONE, true, 49, 1}},
-    {"at the last byte, which is the same", 50, {{0, 49}, {0, 0}}, 49, {BUJORELM_REFUSAL_NONE, false, 0, 0}},
-    {"at the length", 50, {{0, 50}, {0, 0}}, 50, {BUJORELM_REFUSAL_NONE, false, 0, 0}},
-    {"behind the length", 50, {{0, 50}, {0, 0}}, 51, {BUJORELM_REFUSAL_NONE, false, 0, 0}},
-    {"far behind", 50, {{0, 50}, {0, 0}}, SIZE_MAX - 31, {BUJORELM_REFUSAL_NONE, false, 0, 0}},
-    {"as far behind as can be", 50, {{0, 50}, {0, 0}}, SIZE_MAX, {BUJORELM_REFUSAL_NONE, false, 0, 0}},
+    {"images without a byte", 0, {{0, 0}, {0, 0}}, 0, {BUJORELM_CHANGE_NOT_REFUSED, false, 0, 0}},
+    {"equal images", 100, {{0, 0}, {0, 0}}, 0, {BUJORELM_CHANGE_NOT_REFUSED, false, 0, 0}},
+    {"the only byte", 1, {{0, 1}, {0, 0}}, 0, {BUJORELM_CHANGE_NOT_REFUSED, true, 0, 1}},
+    {"the first byte", 100, {{0, 1}, {0, 0}}, 0, {BUJORELM_CHANGE_NOT_REFUSED, true, 0, 1}},
+    {"the last byte", 100, {{99, 100}, {0, 0}}, 0, {BUJORELM_CHANGE_NOT_REFUSED, true, 99, 1}},
+    {"32 bytes", 32, {{0, 32}, {0, 0}}, 0, {BUJORELM_CHANGE_NOT_REFUSED, true, 0, 32}},
+    {"behind 32 bytes", 32, {{0, 32}, {0, 0}}, 32, {BUJORELM_CHANGE_NOT_REFUSED, false, 0, 0}},
+    {"33 bytes", 33, {{0, 33}, {0, 0}}, 0, {BUJORELM_CHANGE_NOT_REFUSED, true, 0, 32}},
+    {"the last of 33 bytes", 33, {{0, 33}, {0, 0}}, 32, {BUJORELM_CHANGE_NOT_REFUSED, true, 32, 1}},
+    {"33 bytes among others", 100, {{20, 53}, {0, 0}}, 0, {BUJORELM_CHANGE_NOT_REFUSED, true, 20, 32}},
+    {"two bytes 31 apart", 100, {{10, 11}, {41, 42}}, 0, {BUJORELM_CHANGE_NOT_REFUSED, true, 10, 32}},
+    {"two bytes 32 apart, the first", 100, {{10, 11}, {42, 43}}, 0, {BUJORELM_CHANGE_NOT_REFUSED, true, 10, 1}},
+    {"two bytes 32 apart, the second", 100, {{10, 11}, {42, 43}}, 11, {BUJORELM_CHANGE_NOT_REFUSED, true, 42, 1}},
+    {"two bytes 30 apart", 100, {{10, 11}, {40, 41}}, 0, {BUJORELM_CHANGE_NOT_REFUSED, true, 10, 31}},
+    {"at the run", 100, {{10, 20}, {0, 0}}, 10, {BUJORELM_CHANGE_NOT_REFUSED, true, 10, 10}},
+    {"in the middle of the run", 100, {{10, 20}, {0, 0}}, 15, {BUJORELM_CHANGE_NOT_REFUSED, true, 15, 5}},
+    {"at the end of the run", 100, {{10, 20}, {0, 0}}, 19, {BUJORELM_CHANGE_NOT_REFUSED, true, 19, 1}},
+    {"behind the run", 100, {{10, 20}, {0, 0}}, 20, {BUJORELM_CHANGE_NOT_REFUSED, false, 0, 0}},
+    {"at the last byte", 50, {{0, 50}, {0, 0}}, 49, {BUJORELM_CHANGE_NOT_REFUSED, true, 49, 1}},
+    {"at the last byte, which is the same", 50, {{0, 49}, {0, 0}}, 49, {BUJORELM_CHANGE_NOT_REFUSED, false, 0, 0}},
+    {"at the length", 50, {{0, 50}, {0, 0}}, 50, {BUJORELM_CHANGE_NOT_REFUSED, false, 0, 0}},
+    {"behind the length", 50, {{0, 50}, {0, 0}}, 51, {BUJORELM_CHANGE_NOT_REFUSED, false, 0, 0}},
+    {"far behind", 50, {{0, 50}, {0, 0}}, SIZE_MAX - 31, {BUJORELM_CHANGE_NOT_REFUSED, false, 0, 0}},
+    {"as far behind as can be", 50, {{0, 50}, {0, 0}}, SIZE_MAX, {BUJORELM_CHANGE_NOT_REFUSED, false, 0, 0}},
 };
 
 static void test_bounds(void)
@@ -532,7 +535,7 @@ static void test_overlap(void)
     uint8_t again[64];
 
     random_bytes(bytes, sizeof bytes);
-    CHECK(is_refused(bujorelm_next_change(bytes, 120, bytes, 120, 0, pairs, 64), BUJORELM_REFUSAL_NONE));
+    CHECK(is_refused(bujorelm_next_change(bytes, 120, bytes, 120, 0, pairs, 64), BUJORELM_CHANGE_NOT_REFUSED));
     for (size_t by = 1; by <= 20; by++) {
         uint8_t copy[120];
         struct bujorelm_change change;
@@ -653,7 +656,7 @@ static void tool_change(struct tool *tool, const uint8_t *image)
     uint8_t pairs[BUJORELM_PAIRS_MIN];
     const struct bujorelm_change change = bujorelm_next_change(tool->image, SEEN, image, SEEN, 0, pairs, sizeof pairs);
 
-    CHECK(change.refusal == BUJORELM_REFUSAL_NONE);
+    CHECK(change.refusal == BUJORELM_CHANGE_NOT_REFUSED);
     if (change.given) {
         struct command *const write = &tool->writes[tool->count++];
 

@@ -103,7 +103,7 @@ def check_words():
                  "0xFD 0 0 01", "0xFD 0 00 0", "0xFD 0 0g 01", "0xFD 0 00 0x01", "0xFD 0xFFFFFFFF 0000 0001", "0xFD 99999999999999999999 00 01"):
         expect(changes(line.split(), 2, usage), [], f"what the example sends for {line}")
     expect(changes(["0xFD", "0", "", ""], 0, "nothing differs, and nothing is sent"), [], "what the example sends for no bytes")
-    expect(changes(["0xFD", "0", "", "00"], 2, "W1: images of 0 and 1 bytes, and 64 bytes for the pairs"), [], "what it sends for a byte and none")
+    expect(changes(["0xFD", "0", "", "00"], 2, "refused: images of 0 and 1 bytes, and 64 bytes for the pairs"), [], "what it sends for a byte and none")
 
 
 def check_header(text):
@@ -112,7 +112,7 @@ def check_header(text):
     functions = set(re.findall(r"\b(bujorelm_\w+)\(", header))
     expect(sorted(name for name in functions - {"bujorelm_versions_fit"} if f"`{name}" not in text), [], "the functions that are missing")
     rows = re.findall(r"^\| (\d) \| `(BUJORELM_\w+)` \|", text, re.M)
-    expect(len(rows), 14, "the kinds in the tables")
+    expect(len(rows), 16, "the kinds and refusals in the tables")
     for number, name in rows:
         expect(re.search(rf"\b{name} = (\d)", header).group(1), number, f"the number of {name}")
     for number in re.findall(r"^\| (\d) \| W\1 \|", text, re.M):

@@ -16,10 +16,10 @@ static bool changes_bits()
     uint8_t pairs[BUJORELM_PAIRS_MIN];
     const bujorelm_change change = bujorelm_next_change(before, sizeof before, after, sizeof after, 0, pairs, sizeof pairs);
 
-    return one.mask == 0xFF && one.data == 0xA4 && change.refusal == BUJORELM_REFUSAL_NONE && change.given && change.start == 1 &&
+    return one.mask == 0xFF && one.data == 0xA4 && change.refusal == BUJORELM_CHANGE_NOT_REFUSED && change.given && change.start == 1 &&
            change.count == 2 && std::memcmp(pairs, wanted, sizeof wanted) == 0 &&
            !bujorelm_next_change(before, sizeof before, after, sizeof after, 3, pairs, sizeof pairs).given &&
-           bujorelm_next_change(before, 2, after, 3, 0, pairs, sizeof pairs).refusal == BUJORELM_REFUSAL_W1;
+           bujorelm_next_change(before, 2, after, 3, 0, pairs, sizeof pairs).refusal == BUJORELM_CHANGE_REFUSED_LENGTHS;
 }
 
 int main()

@@ -1,7 +1,7 @@
-//! Holds the tool's search for the masked writes that take one image of memory to another (W1, W2).
+//! Holds the tool's search for the masked writes that take one image of memory to another, with its
+//! own refusals.
 
 use crate::bits::ByteEffect;
-use crate::ToolRefusal;
 
 /// The most pairs of one masked write.
 const MOST_PAIRS: usize = 32;
@@ -15,6 +15,37 @@ pub struct Change {
     pub count: usize,
 }
 
+/// Why no change is looked for. These are the search's own, and none of C-12's.
+#[derive(Clone, Copy, Debug, PartialEq, Eq, PartialOrd, Ord, Hash)]
+pub enum ChangeRefusal {
+    /// Two images of different length.
+    LengthsDiffer,
+    /// A lent buffer under 64 bytes.
+    BufferTooShort,
+}
+
+impl ChangeRefusal {
+    /// The number that the C edge gives it.
+    #[must_use]
+    pub const fn number(self) -> u8 {
+        match self {
+            Self::LengthsDiffer => 1,
+            Self::BufferTooShort => 2,
+        }
+    }
+}
+
+impl core::fmt::Display for ChangeRefusal {
+    fn fmt(&self, out: &mut core::fmt::Formatter<'_>) -> core::fmt::Result {
+        out.write_str(match self {
+            Self::LengthsDiffer => "images of different length",
+            Self::BufferTooShort => "a buffer under 64 bytes",
+        })
+    }
+}
+
+impl core::error::Error for ChangeRefusal {}
+
 /// Finds the next change at or after the index `from`, and puts down its pairs at the start of the
 /// lent buffer, for each byte its mask and then its data.
 ///
@@ -24,19 +55,19 @@ pub struct Change {
 /// differs, which is not a change at index 0. The bytes behind the pairs, and the whole buffer
 /// where there is no change, stay as they were.
 ///
-/// W1 for images of different length comes first, then W2 for a buffer under 64 bytes, also where
-/// there is no change; both leave the whole buffer as it was.
+/// Images of different length are refused first, then a buffer under 64 bytes, also where there is
+/// no change; both leave the whole buffer as it was.
 pub fn next_change(
     before: &[u8],
     after: &[u8],
     from: usize,
     pairs: &mut [u8],
-) -> Result<Option<Change>, ToolRefusal> {
+) -> Result<Option<Change>, ChangeRefusal> {
     if before.len() != after.len() {
-        return Err(ToolRefusal::W1);
+        return Err(ChangeRefusal::LengthsDiffer);
     }
     if pairs.len() < 2 * MOST_PAIRS {
-        return Err(ToolRefusal::W2);
+        return Err(ChangeRefusal::BufferTooShort);
     }
     let length = before.len();
     let differs = |index: &usize| before[*index] != after[*index];

@@ -29,7 +29,7 @@ mod tool;
 
 pub use bits::put_together;
 pub use call_error::CallError;
-pub use change::{next_change, Change};
+pub use change::{next_change, Change, ChangeRefusal};
 pub use cutting::{cut, cut_into, Frames, MOST_FRAMES};
 pub use datagram::{code, handle_datagram, Answer, Lock, LONGEST_DATAGRAM};
 pub use demonstration::{demo_board, Board, DEMONSTRATION_DESCRIPTION};

@@ -12,15 +12,14 @@ const CONTENT_ID: u8 = 0x20;
 /// The most bytes that one command or reply carries: data, or masks and data in pairs.
 const MOST_DATA: usize = 64;
 
-/// Why the writer, a reader or the next change gives no result.
+/// Why the writer or a reader gives no result.
 ///
 /// Like the errors of the board's caller these go back to the caller and are never sent.
 #[derive(Clone, Copy, Debug, PartialEq, Eq, PartialOrd, Ord, Hash)]
 pub enum ToolRefusal {
-    /// In writing: a count or a length that is out of range. In the next change: two images of
-    /// different length.
+    /// In writing: a count or a length that is out of range.
     W1,
-    /// In writing: a lent buffer under 72 bytes. In the next change: one under 64.
+    /// In writing: a lent buffer under 72 bytes.
     W2,
     /// In reading: bytes that have none of the forms.
     W3,

@@ -1,10 +1,10 @@
 //! Holds the tests of the next change from an old image to a new one: where it starts and ends, its
-//! pairs, its refusals (W1, W2), and that all changes together make the new image.
+//! pairs, its refusals, and that all changes together make the new image.
 
 mod common;
 
 use common::{hex, space, Bench, Numbers, FILL};
-use model::{next_change, write_command, Answer, Change, Request, ToolRefusal};
+use model::{next_change, write_command, Answer, Change, ChangeRefusal, Request};
 
 /// The next change and its pairs. Holds the rules about what stays untouched to it, in buffers of
 /// several sizes.
@@ -63,7 +63,7 @@ fn images(length: usize, indices: &[usize]) -> (Vec<u8>, Vec<u8>) {
 }
 
 /// Asserts what a call that is refused says, and that it leaves the buffer as it was.
-fn refuses(before: &[u8], after: &[u8], from: usize, size: usize, refusal: ToolRefusal) {
+fn refuses(before: &[u8], after: &[u8], from: usize, size: usize, refusal: ChangeRefusal) {
     let buffer: Vec<u8> = (0..size).map(|index| index as u8 ^ FILL).collect();
     let mut lent = buffer.clone();
     assert_eq!(next_change(before, after, from, &mut lent), Err(refusal));
@@ -193,19 +193,19 @@ fn refusals() {
     let (before, after) = images(40, &[3, 39]);
     let shorter = &after[..39];
     for from in [0, 3, 4, 39, 40, usize::MAX] {
-        // W1 before W2, whatever the buffer is.
+        // The lengths come first, whatever the buffer is.
         for size in [0, 1, 63, 64, 72, 80] {
-            refuses(&before, shorter, from, size, ToolRefusal::W1);
-            refuses(shorter, &before, from, size, ToolRefusal::W1);
-            refuses(&[], &[0], from, size, ToolRefusal::W1);
-            refuses(&[0], &[], from, size, ToolRefusal::W1);
+            refuses(&before, shorter, from, size, ChangeRefusal::LengthsDiffer);
+            refuses(shorter, &before, from, size, ChangeRefusal::LengthsDiffer);
+            refuses(&[], &[0], from, size, ChangeRefusal::LengthsDiffer);
+            refuses(&[0], &[], from, size, ChangeRefusal::LengthsDiffer);
         }
-        // W2 also where there is no change, or only a short one.
+        // A short buffer also where there is no change, or only a short one.
         for size in [0, 1, 2, 62, 63] {
-            refuses(&before, &after, from, size, ToolRefusal::W2);
-            refuses(&before, &before, from, size, ToolRefusal::W2);
-            refuses(&[], &[], from, size, ToolRefusal::W2);
-            refuses(&[0], &[1], from, size, ToolRefusal::W2);
+            refuses(&before, &after, from, size, ChangeRefusal::BufferTooShort);
+            refuses(&before, &before, from, size, ChangeRefusal::BufferTooShort);
+            refuses(&[], &[], from, size, ChangeRefusal::BufferTooShort);
+            refuses(&[0], &[1], from, size, ChangeRefusal::BufferTooShort);
         }
     }
 }

@@ -2,11 +2,14 @@
 -- Assumes nothing.
 use borrow.Author.Needs.{needs}
 use Rattle.tool_meets_board_spec.proofs.MeetingLaws.{halves-meet}
+use Rattle.bujorelm_tool.proofs.ToolLaws.{replies}
 use Rattle.bujorelm_tool.proofs.bujorelm_read_reply.Statement.{statement}
 use Rattle.bujorelm_tool.proofs.bujorelm_read_reply.Tie as tie
 
 returns : tie.Need-returns
-returns c = (rw (← c .before .read-reply .ensures .0) (c .of-reply .ensures .0), (c .before .read-reply .ensures .1, (c .of-reply .ensures .1, halves-meet)))
+returns c =
+    let f = replies (c .before .before .before .args .datagram .now) (c .of-reply .ensures .0) (c .before .read-reply .ensures .0) in
+    (f .0, (f .1, (c .before .read-reply .ensures .1, (c .of-reply .ensures .1, halves-meet))))
 
 pub bujorelm-read-reply-spec : {M : Type 1} → statement M
 bujorelm-read-reply-spec = tie.close (tie.spec (λ c κs. search needs) (λ c κs. search needs) returns)

@@ -4,7 +4,7 @@ use mathlib.Core.Path.{_≡_, refl, sym, ap, _∙_}
 use Rattle.space_table.specs.Table.{spacesIn}
 use Rattle.cmd_decode.specs.Decoding.{readingOf}
 use Rattle.exec_spec.specs.Handling.{fixed, contents, handle}
-use Rattle.exec_spec.proofs.HandlingLaws.{request-handled, handle-bounds}
+use Rattle.exec_spec.proofs.HandlingLaws.{request-handled, handle-bounds, announced}
 use borrow.Author.Needs.{needs}
 use Rattle.exec_datagram.proofs.handle.Statement.{statement}
 use Rattle.exec_datagram.proofs.handle.Tie as tie
@@ -25,7 +25,7 @@ unfolding handle
 returns c = (
   rw (← c .before .before .before .decode .ensures, c .before .decoded .given .1)
       (record { answer = record { answer = refl; buffer = refl }; memory = refl; lock = refl; short = tt }),
-  handle-bounds,
+  (handle-bounds, announced),
 )
 
 returns-2 : tie.Need-returns-2
@@ -37,7 +37,7 @@ returns-2 c =
     let x = fixed (a .alias) (a .write-lengths) (spacesIn (a .spaces .now)) (a .flash .now) in
     let d = a .datagram .now in
     let e = sym (k .decode .ensures) ∙ ap (λ r. readingOf r d) (q .decoded2 .given .1) in
-    (request-handled x (contents (a .memory .now) (a .lock .now)) d e (p .perform .ensures), handle-bounds)
+    (request-handled x (contents (a .memory .now) (a .lock .now)) d e (p .perform .ensures), (handle-bounds, announced))
 
 pub handle-spec : {M : Type 1} → statement M
 handle-spec =

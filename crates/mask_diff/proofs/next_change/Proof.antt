@@ -3,7 +3,7 @@
 use native.Mathlib.Omega.{arith}
 use borrow.Author.Needs.{needs}
 use Rattle.mask_diff_spec.proofs.FewestLaws.{all-updates}
-use Rattle.mask_diff.proofs.LoopLaws.{find-w1, find-w2, find-none, find-at, end-fits, part-fits}
+use Rattle.mask_diff.proofs.LoopLaws.{find-lengths, find-short, find-none, find-at, end-fits, part-fits}
 use Rattle.mask_diff.proofs.next_change.Statement.{statement}
 use Rattle.mask_diff.proofs.next_change.Tie as tie
 
@@ -15,10 +15,10 @@ abbrev counted : tie.After-put-changes-arg3 → tie.After-count-changes
 counted c = c .before .before .before
 
 returns : tie.Need-returns
-returns c = (find-w1 _ _ _ _ (c .if1 .taken), all-updates)
+returns c = (find-lengths _ _ _ _ (c .if1 .taken), all-updates)
 
 returns-2 : tie.Need-returns-2
-returns-2 c = (find-w2 _ _ _ _ (c .before .if1 .left) (c .if2 .taken), all-updates)
+returns-2 c = (find-short _ _ _ _ (c .before .if1 .left) (c .if2 .taken), all-updates)
 
 returns-3 : tie.Need-returns-3
 returns-3 c =

@@ -73,7 +73,7 @@ answer-outcome-requires c κs =
     let j = joined c in
     let k = passed (joining j) in
     let s = start k in
-    (passed-buffer (board s) (s .args .memory .now) (s .args .reply .now) (check k ∙ joining j .enum-told .given .1), search needs, j .join .ensures .inside)
+    (passed-buffer (board s) (s .args .memory .now) (s .args .reply .now) (check k ∙ joining j .enum-told .given .1), search needs, j .join .ensures .0 .inside)
 
 returns-2 : tie.Need-returns-2
 returns-2 c =
@@ -86,10 +86,10 @@ returns-2 c =
     let g = check k ∙ joining j .enum-told .given .1 in
     let p = d .answer-outcome .ensures (receive (s .args .alias) (s .args .tick) (state s) (frame s) .state) in (
       record {
-        answers = rw (call-joined x out (s .args .tick) (state s) (world s) (frame s) g (j .join .ensures)) p;
-        keeps = call-keeps x out (s .args .tick) (state s) (world s) (frame s) g (j .join .ensures);
-        small = call-small x out (s .args .tick) (state s) (world s) (frame s) g (j .join .ensures) p;
-        changes = call-changes x out (s .args .tick) (state s) (world s) (frame s) g (j .join .ensures) p;
+        answers = rw (call-joined x out (s .args .tick) (state s) (world s) (frame s) g (j .join .ensures .0)) p;
+        keeps = call-keeps x out (s .args .tick) (state s) (world s) (frame s) g (j .join .ensures .0);
+        small = call-small x out (s .args .tick) (state s) (world s) (frame s) g (j .join .ensures .0) p;
+        changes = call-changes x out (s .args .tick) (state s) (world s) (frame s) g (j .join .ensures .0) p;
       },
       node-theorems x,
     )

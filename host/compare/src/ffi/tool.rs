@@ -139,7 +139,7 @@ pub struct Pair {
 #[derive(Clone, Copy, Debug, PartialEq, Eq)]
 #[repr(C)]
 pub struct Change {
-    /// 1 for W1, 2 for W2, or 0.
+    /// 1 for images of different length, 2 for a short buffer, or 0.
     pub refusal: u32,
     /// Whether there is a change.
     pub given: Flag,

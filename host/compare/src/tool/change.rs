@@ -21,7 +21,7 @@ use crate::tool::Archive;
 use crate::writes::aimed::MOST_PAIRS;
 use cases::ChangeTally;
 use images::{any_from, any_images};
-use model::ToolRefusal;
+use model::ChangeRefusal;
 
 /// The fewest bytes of a buffer for pairs.
 pub const LEAST_ROOM: usize = 2 * MOST_PAIRS;
@@ -80,7 +80,7 @@ impl Step {
 }
 
 /// What is found: a change, that there is none, or a refusal.
-pub type Found = Result<Option<Step>, ToolRefusal>;
+pub type Found = Result<Option<Step>, ChangeRefusal>;
 
 /// Makes one call, or some that belong together, to both sides.
 pub fn call(archive: &impl Archive, random: &mut Random, tally: &mut Tally) -> Result<(), String> {

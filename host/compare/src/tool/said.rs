@@ -6,7 +6,7 @@ use crate::ffi::tool::{
     Acknowledged, Bytes, Change, Composed, Information, Options, Rejection, Reply,
 };
 use crate::ffi::Flag;
-use model::{NamedSpace, ReceivedOk, RejectedContent, ToolRefusal};
+use model::{ChangeRefusal, NamedSpace, ReceivedOk, RejectedContent, ToolRefusal};
 
 /// How many bytes the code of a Rejected has where it is whole.
 pub const BEHIND_CODE: usize = 2;
@@ -357,7 +357,7 @@ pub const fn composed(written: Result<usize, ToolRefusal>) -> Composed {
 
 /// The numbers by which the library has to say what the next change is.
 #[must_use]
-pub const fn changed(found: Result<Option<model::Change>, ToolRefusal>) -> Change {
+pub const fn changed(found: Result<Option<model::Change>, ChangeRefusal>) -> Change {
     let (refusal, found) = match found {
         Ok(found) => (0, found),
         Err(refusal) => (refusal.number() as u32, None),

@@ -1,5 +1,6 @@
 -- `rx_join::unfinished::close` meets its contract.
 -- Assumes nothing.
+use mathlib.Core.Path.{refl}
 use mathlib.Core.Bool.{true}
 use native.Mathlib.Omega.{arith}
 use borrow.Author.Needs.{needs}
@@ -11,9 +12,11 @@ returns : tie.Need-returns
 returns c =
     let p = c .before .before .before .before in
     let e = p .before .before .before .before in
-    let a = e .args in
-    close-done (a .i) (a .len) true (a .payload .now) (a .pool .now) (a .places .now) (e .pre .0) (e .pre .1) _ _ (p .put .ensures) 0 _
-    (record { inside = e .pre .1 .inside; size = search needs; bytes = c .free .ensures }) (omega arith)
+    let a = e .args in (
+      close-done (a .i) (a .len) true (a .payload .now) (a .pool .now) (a .places .now) (e .pre .0) (e .pre .1) _ _ (p .put .ensures) 0 _
+          (record { inside = e .pre .1 .inside; size = search needs; bytes = c .free .ensures }) (omega arith),
+      (refl, refl),
+    )
 
 pub close-spec : {M : Type 1} → statement M
 close-spec =

@@ -2,6 +2,7 @@
 -- Assumes nothing.
 use borrow.Author.Needs.{needs}
 use Rattle.rx_join_spec.proofs.JoinLaws.{is-held, step-joins, step-allowed}
+use Rattle.rx_join_spec.proofs.LieLaws.{by-frame}
 use Rattle.rx_join.proofs.unfinished.join_sound.Statement.{statement}
 use Rattle.rx_join.proofs.unfinished.join_sound.Tie as tie
 
@@ -25,8 +26,11 @@ returns c =
     let n = w .before .before in
     let e = n .before .before .before .before in
     let a = e .args in
-    step-joins (a .source) (a .i) (a .payload .now) (a .tick) (a .pool .now) (a .places .now) (e .pre .0) (e .pre .1) (e .pre .2) (a .role)
-    (w .is-swallowing .result) (w .is-swallowing .ensures) (n .len-at .result) (n .len-at .ensures) (x .step-of .result) (x .step-of .ensures) _ _ _ (c .before .before .take-step .ensures)
+    let o = c .before .before .take-step in (
+      step-joins (a .source) (a .i) (a .payload .now) (a .tick) (a .pool .now) (a .places .now) (e .pre .0) (e .pre .1) (e .pre .2) (a .role)
+          (w .is-swallowing .result) (w .is-swallowing .ensures) (n .len-at .result) (n .len-at .ensures) (x .step-of .result) (x .step-of .ensures) _ _ _ (o .ensures .0),
+      by-frame (a .role) _ _ (w .is-swallowing .result) (n .len-at .result) (x .step-of .result) (x .step-of .ensures) (a .i) (o .result) (o .ensures .1),
+    )
 
 pub join-sound-spec : {M : Type 1} → statement M
 join-sound-spec =

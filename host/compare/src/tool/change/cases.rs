@@ -6,7 +6,7 @@ use crate::tool::cases::count_among;
 use crate::tool::change::board::{Visit, MOST_READ};
 use crate::tool::change::{Found, Search, Step, LEAST_ROOM};
 use crate::writes::aimed::{Write, MOST_PAIRS};
-use model::ToolRefusal;
+use model::ChangeRefusal;
 
 cases! {
     ChangeCase;
@@ -40,22 +40,22 @@ cases! {
     TogetherLaterOutside = "together: later data, no mask bit", Small;
     /// Data of the later outside its mask, in a bit that the earlier clears.
     TogetherLaterOver = "together: later data, earlier clears", Small;
-    /// W1 of a longer old image.
-    NextW1Old = "change: W1, the old image is longer", Small;
-    /// W1 of a longer new one.
-    NextW1New = "change: W1, the new image is longer", Small;
-    /// W1 of lengths one apart.
-    NextW1One = "change: W1, one byte more or fewer", Small;
-    /// W1 of an image without a byte.
-    NextW1Empty = "change: W1, one image is empty", Small;
-    /// W1, and a short buffer.
-    NextW1Short = "change: W1, with a short buffer", Small;
-    /// W1, and nothing to be looked at.
-    NextW1Behind = "change: W1, from behind the images", Small;
-    /// W2 where there is a change.
-    NextW2 = "change: W2, there is one", Small;
-    /// W2 where there is none.
-    NextW2None = "change: W2, there is none", Small;
+    /// Lengths of which the old image's is greater.
+    LengthsOld = "lengths: the old image is longer", Small;
+    /// Lengths of which the new one's is.
+    LengthsNew = "lengths: the new image is longer", Small;
+    /// Lengths one apart.
+    LengthsOne = "lengths: one byte more or fewer", Small;
+    /// Lengths of which one is 0.
+    LengthsEmpty = "lengths: one image is empty", Small;
+    /// Lengths that differ, and a short buffer.
+    LengthsShort = "lengths: with a short buffer", Small;
+    /// Lengths that differ, and nothing to be looked at.
+    LengthsBehind = "lengths: from behind the images", Small;
+    /// A short buffer where there is a change.
+    ShortBuffer = "short buffer: there is a change", Small;
+    /// A short buffer where there is none.
+    ShortNone = "short buffer: there is none", Small;
     /// Of images without a byte.
     NoneEmpty = "no change: empty images", Small;
     /// Of equal images, from within.
@@ -240,15 +240,15 @@ impl ChangeTally {
     /// Counts a search with a buffer of so many bytes.
     pub fn next(&mut self, search: Search, room: usize, found: &Found) {
         let differs = search.before != search.after;
-        if *found == Err(ToolRefusal::W1) {
+        if *found == Err(ChangeRefusal::LengthsDiffer) {
             return self.unequal(search, room);
         }
         count_among(&mut self.rooms, &ROOMS, &room);
         match found {
             Err(_) => self.count(if differs {
-                ChangeCase::NextW2
+                ChangeCase::ShortBuffer
             } else {
-                ChangeCase::NextW2None
+                ChangeCase::ShortNone
             }),
             Ok(None) => self.none(search, differs),
             Ok(Some(step)) => {
@@ -265,12 +265,12 @@ impl ChangeTally {
     fn unequal(&mut self, search: Search, room: usize) {
         let (old, new) = (search.before.len(), search.after.len());
         self.count_all([
-            (old > new, ChangeCase::NextW1Old),
-            (old < new, ChangeCase::NextW1New),
-            (old.abs_diff(new) == 1, ChangeCase::NextW1One),
-            (old == 0 || new == 0, ChangeCase::NextW1Empty),
-            (room < LEAST_ROOM, ChangeCase::NextW1Short),
-            (search.from >= old.max(new), ChangeCase::NextW1Behind),
+            (old > new, ChangeCase::LengthsOld),
+            (old < new, ChangeCase::LengthsNew),
+            (old.abs_diff(new) == 1, ChangeCase::LengthsOne),
+            (old == 0 || new == 0, ChangeCase::LengthsEmpty),
+            (room < LEAST_ROOM, ChangeCase::LengthsShort),
+            (search.from >= old.max(new), ChangeCase::LengthsBehind),
         ]);
     }
 
@@ -517,18 +517,18 @@ mod tests {
         assert_eq!(
             searched(&[1, 2], &[1], usize::MAX, 63),
             [
-                Case::NextW1Old,
-                Case::NextW1One,
-                Case::NextW1Short,
-                Case::NextW1Behind
+                Case::LengthsOld,
+                Case::LengthsOne,
+                Case::LengthsShort,
+                Case::LengthsBehind
             ]
         );
         assert_eq!(
             searched(&[], &[1, 2], 1, 64),
-            [Case::NextW1New, Case::NextW1Empty]
+            [Case::LengthsNew, Case::LengthsEmpty]
         );
-        assert_eq!(searched(&[1], &[2], 0, 63), [Case::NextW2]);
-        assert_eq!(searched(&[1], &[1], 0, 0), [Case::NextW2None]);
+        assert_eq!(searched(&[1], &[2], 0, 63), [Case::ShortBuffer]);
+        assert_eq!(searched(&[1], &[1], 0, 0), [Case::ShortNone]);
         assert_eq!(searched(&[], &[], usize::MAX, 64), [Case::NoneEmpty]);
         assert_eq!(searched(&[1], &[1], 0, 64), [Case::NoneEqual]);
         let differing = |from| searched(&[1, 1, 1], &[2, 1, 1], from, 64);

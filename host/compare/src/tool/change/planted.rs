@@ -16,8 +16,8 @@ use crate::tool::{Archive, Library};
 enum Fault {
     None,
     // Of refusals.
-    W2BeforeW1,
-    W2BeforeW1WithoutChange,
+    RoomBeforeLengths,
+    RoomBeforeLengthsWithoutChange,
     Room63Taken,
     Room63TakenWithoutChange,
     Room65Refused,
@@ -68,8 +68,8 @@ enum Fault {
 
 /// All of them, and how the report on each begins.
 const FAULTS: [(Fault, &str); 44] = [
-    (Fault::W2BeforeW1, ANSWERS),
-    (Fault::W2BeforeW1WithoutChange, ANSWERS),
+    (Fault::RoomBeforeLengths, ANSWERS),
+    (Fault::RoomBeforeLengthsWithoutChange, ANSWERS),
     (Fault::Room63Taken, ANSWERS),
     (Fault::Room63TakenWithoutChange, ANSWERS),
     (Fault::Room65Refused, ANSWERS),
@@ -184,8 +184,10 @@ impl Planted {
             Some(Library.next_change(before, after, from, pairs))
         };
         match self.0 {
-            Fault::W2BeforeW1 if room < 64 => Some(refused(2)),
-            Fault::W2BeforeW1WithoutChange if room < 64 && from >= length => Some(refused(2)),
+            Fault::RoomBeforeLengths if room < 64 => Some(refused(2)),
+            Fault::RoomBeforeLengthsWithoutChange if room < 64 && from >= length => {
+                Some(refused(2))
+            }
             Fault::Room65Refused if room == 65 && !unequal => Some(refused(2)),
             Fault::ShorterImageTaken if unequal => ask(&before[..length], &after[..length], from),
             _ if unequal => None,
