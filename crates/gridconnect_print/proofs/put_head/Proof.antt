@@ -35,9 +35,8 @@ composed header at buffer {o₁} {o₂} fits e₁ e₂ e₃ =
 
 returns : tie.Need-returns
 returns c =
-    let n = number (c .before .before) in
-    composed _ _ _ (omega arith) (pair n .put-pair .ensures) (n .put-number .ensures .0)
-    (c .before .before .put-byte .ensures)
+    composed _ _ _ (omega arith) (pair (number (c .before .before)) .put-pair .ensures)
+    (number (c .before .before) .put-number .ensures .0) (c .before .before .put-byte .ensures)
 
 pub put-head-spec : {M : Type 1} → statement M
 put-head-spec =

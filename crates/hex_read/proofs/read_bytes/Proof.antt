@@ -119,14 +119,13 @@ shared-slice-read-value-of-2 c =
 
 loop-again : tie.Need-loop-again Inv-loop μ-loop
 loop-again c =
-    let d = high (c .before) in
-    let s = start (head d .before) .args .text .now in
-    let l = head d .loop in
-    let v = even (head d .before) in
+    let s = start (head (high (c .before)) .before) .args .text .now in
+    let l = head (high (c .before)) .loop in
+    let v = even (head (high (c .before)) .before) in
     let h : l .i + 1 < length s = omega arith in
-    let x = d .value-of .result in
+    let x = high (c .before) .value-of .result in
     let y = c .before .value-of2 .result in
-    let ex = d .value-of .ensures in
+    let ex = high (c .before) .value-of .ensures in
     let ey = c .before .value-of2 .ensures in (
       omega arith,
       omega arith,
@@ -144,11 +143,11 @@ returns-3 c =
 
 returns-4 : tie.Need-returns-4 Inv-loop μ-loop
 returns-4 c =
-    let e = c .before .before .before in
-    let s = start e .args .text .now in
+    let s = start (c .before .before .before) .args .text .now in
     let l = c .before .before .loop in
     let t = all-good s (l .i) (l .worst) (l .inv .2) (omega arith) (omega arith) in
-    let w = whole s (e .before .if1 .left) (even e) (l .bytes) (l .n) (l .i) (omega arith) t in
+    let v = even (c .before .before .before) in
+    let w = whole s (c .before .before .before .before .if1 .left) v (l .bytes) (l .n) (l .i) (omega arith) t in
     (w (l .inv .3 t) (l .inv .4), (bytes-read-back, bytes-again))
 
 pub read-bytes-spec : {M : Type 1} → statement M
