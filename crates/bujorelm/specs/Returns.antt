@@ -35,7 +35,8 @@ module _ (alias lengths : ℕ) (spaces flash memory lock datagram reply : LentBy
     pub held : after lock ≡ datagramLeaves .lock
 
 -- After the frame call: the same, the reception state with its bytes, and the frames to send in front of their buffer.
-module _ (alias lengths : ℕ) (spaces flash memory lock pool places : LentBytes) (tick header : ℕ) (payload reply frames : LentBytes) where
+module _ (alias lengths : ℕ) (spaces flash memory lock pool places : LentBytes) (tick header : ℕ)
+    (payload reply frames : LentBytes) where
   abbrev frameLeaves : FrameResult CallError Contents Result
   frameLeaves = lentFrameCall alias lengths spaces flash memory lock pool places tick header payload reply
 

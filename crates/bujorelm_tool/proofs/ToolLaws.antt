@@ -11,7 +11,7 @@ use Rattle.tool_write_spec.specs.Writing.{inRange, CommandWrites}
 use Rattle.tool_write_spec.specs.declared.CommandWritten.{CommandWritten}
 use Rattle.tool_read_spec.specs.Finding.{findReply}
 use Rattle.tool_read_spec.specs.declared.ReplyIn.{ReplyIn}
-use Rattle.tool_result_spec.specs.Numbers.{composedOf, fieldsOfReply, replyRefusal, refusalIn}
+use Rattle.tool_result_spec.specs.Numbers.{composedOf, fieldsOfReply, replyRefusal, replyRefusalIn}
 use Rattle.tool_result_spec.specs.declared.Composed.{Composed}
 use Rattle.tool_result_spec.specs.declared.ReplyFields.{ReplyFields}
 use Rattle.tool_result_spec.proofs.ApartLaws.{reply-refusal}
@@ -28,7 +28,7 @@ count-over space address count h = rw (le-leb 1 count (omega arith), lt-leb coun
 
 -- what was found in a datagram, as numbers: W3 is kind 0
 pub replies : (d : List ℕ) {found : ReplyIn} {r : ReplyFields} → r ≡ fieldsOfReply found → found ≡ findReply d →
-    (r ≡ fieldsOfReply (findReply d)) × (refusalIn r ≡ replyRefusal (findReply d))
+    (r ≡ fieldsOfReply (findReply d)) × (replyRefusalIn r ≡ replyRefusal (findReply d))
 replies d p q =
     let e = p ∙ ap fieldsOfReply q in
-    (e, ap refusalIn e ∙ reply-refusal (findReply d))
+    (e, ap replyRefusalIn e ∙ reply-refusal (findReply d))

@@ -24,7 +24,7 @@ ghost use Rattle.rx_join_spec.specs.Joins.{Joins, Lies};
 ghost use Rattle.tool_read_spec.specs.Finding.{findReply, Readings};
 ghost use Rattle.tool_read_ack.specs.Receipt.{readReceived, readRejection};
 ghost use Rattle.tool_write_spec.specs.Writing.{EveryRequest};
-ghost use Rattle.tool_result_spec.specs.Numbers.{acknowledgedOf, rejectionOf, fieldsOfReply, replyRefusal, refusalIn, ToldApart};
+ghost use Rattle.tool_result_spec.specs.Numbers.{acknowledgedOf, rejectionOf, fieldsOfReply, replyRefusal, replyRefusalIn, ToldApart};
 ghost use Rattle.tool_meets_board_spec.specs.Meeting.{HalvesMeet};
 ghost use Rattle.mask_combine.specs.Combining.{zeroOutside, putTogether, pairIs};
 ghost use Rattle.mask_effects_spec.specs.AnyOrder.{WritesAddUp};
@@ -156,7 +156,7 @@ pub extern "C" fn bujorelm_read_rejected(content: &[u8]) -> RejectionFields
 #[no_mangle]
 pub extern "C" fn bujorelm_read_reply(datagram: &[u8]) -> ReplyFields
     ensures fields { λ r. ⌜ r ≡ fieldsOfReply (findReply (before datagram)) ⌝ }
-    ensures refusal { λ r. ⌜ refusalIn r ≡ replyRefusal (findReply (before datagram)) ⌝ }
+    ensures refusal { λ r. ⌜ replyRefusalIn r ≡ replyRefusal (findReply (before datagram)) ⌝ }
     ensures readings { λ _. ⌜ Readings ⌝ }
     ensures apart { λ _. ⌜ ToldApart ⌝ }
     ensures meets { λ _. ⌜ HalvesMeet ⌝ }

@@ -71,12 +71,14 @@ abbrev pub windowCheck : ℕ → ℕ → ℕ → Space → Checked
 windowCheck flash memory position s =
     cond (ltb (s .highest) (s .lowest)) (Failed (B2LowestAboveHighest position))
     (cond (ltb (storeOf s flash memory) (s .offset + sizeOf s)) (Failed (B3WindowPastEnd position))
-    (cond (not (s .«read_only») && (s .«in_flash» || eqb (s .number) 0xFF)) (Failed (B4MustBeReadOnly position)) Passed))
+    (cond (not (s .«read_only») && (s .«in_flash» || eqb (s .number) 0xFF)) (Failed (B4MustBeReadOnly position))
+    Passed))
 
 -- and then "B5 number used by an earlier space". The position, "counted from 0", is the number of earlier spaces.
 abbrev pub spaceCheck : ℕ → ℕ → List ℕ → Space → Checked
 spaceCheck flash memory earlier s =
-    orElse (windowCheck flash memory (length earlier) s) (cond (among (s .number) earlier) (Failed (B5NumberUsedTwice (length earlier))) Passed)
+    orElse (windowCheck flash memory (length earlier) s)
+    (cond (among (s .number) earlier) (Failed (B5NumberUsedTwice (length earlier))) Passed)
 
 -- "Then each space in order": the spaces behind those with the numbers `earlier`.
 unfoldable pub spacesCheck : ℕ → ℕ → List ℕ → List Space → Checked

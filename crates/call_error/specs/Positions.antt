@@ -23,5 +23,6 @@ pub record RefusedAt (alias flash memory : ℕ) (spaces : List Space) (i : ℕ) 
 -- What is found in a call that is lent such a description: a position that the error brings is that of the space that
 -- is refused, and where a space is refused so, it is this error that is found.
 pub record Positioned (alias flash memory : ℕ) (spaces : List Space) (given : Checked) : Type 0 where
-  pub says : (error : CallError) (i : ℕ) → given ≡ Failed error → refusalOf error .position ≡ At i → RefusedAt alias flash memory spaces i error
+  pub says : (error : CallError) (i : ℕ) → given ≡ Failed error → refusalOf error .position ≡ At i
+      → RefusedAt alias flash memory spaces i error
   pub found : (error : CallError) (i : ℕ) → RefusedAt alias flash memory spaces i error → given ≡ Failed error

@@ -79,8 +79,9 @@ pub fn answer_chunk(
     out: &mut [u8],
 ) -> Progress
     ensures answers { λ r.
-        ⌜ ChunkAnswered (boardOf alias «write_lengths» spaces flash) (stateBefore places pool) (contentsBefore memory lock)
-        begun (before chunk) from r (before out) (after out) (contentsAfter memory lock) (stateAfter places pool) ⌝ }
+        ⌜ ChunkAnswered (boardOf alias «write_lengths» spaces flash) (stateBefore places pool)
+        (contentsBefore memory lock) begun (before chunk) from r (before out) (after out)
+        (contentsAfter memory lock) (stateAfter places pool) ⌝ }
     ensures cuts { λ _. ⌜ AnyChunks (boardOf alias «write_lengths» spaces flash) ⌝ }
 {
     let mut carry = begun;

@@ -101,16 +101,19 @@ sentTo board (c ∷ cs) (a ∷ answers) = sentOf board (c .input) a ∷ sentTo b
 abbrev pub BusOrder : Fixed → Type 0
 BusOrder x =
     (st : State) (c : Contents) (ks : List Call) → OrderlyCalls x st c ks
-    → sentInCalls x st c ks ≡ sentTo (x .alias) (map heardOf ks) (answersTo B7BadReceptionState (handler x) c (eventsOf (x .alias) (map heardOf ks)))
+    → sentInCalls x st c ks ≡ sentTo (x .alias) (map heardOf ks)
+    (answersTo B7BadReceptionState (handler x) c (eventsOf (x .alias) (map heardOf ks)))
 
 -- ---- what the code gives back
 
 -- Everything that the caller finds after a frame is handled and answered, of what it lent and handed in.
-module _ (alias lengths : ℕ) (spaces flash memory lock pool places : LentBytes) (tick header : ℕ) (payload reply frames : LentBytes) where
+module _ (alias lengths : ℕ) (spaces flash memory lock pool places : LentBytes) (tick header : ℕ)
+    (payload reply frames : LentBytes) where
   -- The frames to send to the frame's source.
   abbrev pub lentFramesSent : List Frame
   lentFramesSent =
-      sentFor alias (sourceOf header) (lentFrameCall alias lengths spaces flash memory lock pool places tick header payload reply .answer)
+      sentFor alias (sourceOf header)
+      (lentFrameCall alias lengths spaces flash memory lock pool places tick header payload reply .answer)
 
   pub record BusEnds (answer : FrameAnswer) (count : ℕ) : Type 0 where
     pub ends : FrameEnds alias lengths spaces flash memory lock pool places tick header payload reply answer

@@ -61,7 +61,8 @@ HandledChanges (Answered a) old new = Changes a old new
 -- Everything that the caller finds after the call for a whole datagram, of what it lent and handed in.
 module _ (alias lengths : ℕ) (spaces flash memory lock datagram reply : LentBytes) where
   abbrev pub lentDatagramCall : Final
-  lentDatagramCall = datagramCall (boardOf alias lengths spaces flash) (contentsBefore memory lock) (before datagram) (before reply)
+  lentDatagramCall =
+      datagramCall (boardOf alias lengths spaces flash) (contentsBefore memory lock) (before datagram) (before reply)
 
   pub record DatagramEnds (r : Handled) : Type 0 where
     pub ends : EndsAs lentDatagramCall r (after reply) (after memory) (after lock)

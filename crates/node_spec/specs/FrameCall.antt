@@ -101,11 +101,12 @@ pub record Keeps (x : FrameResult CallError Contents Result) (before after bytes
   pub pool : bytes ≡ x .state .pool
 
 -- Everything that the caller finds after the frame call, of what it lent and handed in.
-module _ (alias lengths : ℕ) (spaces flash memory lock pool places : LentBytes) (tick header : ℕ) (payload reply : LentBytes) where
+module _ (alias lengths : ℕ) (spaces flash memory lock pool places : LentBytes) (tick header : ℕ)
+    (payload reply : LentBytes) where
   abbrev pub lentFrameCall : FrameResult CallError Contents Result
   lentFrameCall =
-      frameCall (boardOf alias lengths spaces flash) (before reply) tick (stateBefore places pool) (contentsBefore memory lock)
-      (canFrame header (before payload))
+      frameCall (boardOf alias lengths spaces flash) (before reply) tick (stateBefore places pool)
+      (contentsBefore memory lock) (canFrame header (before payload))
 
   pub record FrameEnds (r : FrameAnswer) : Type 0 where
     pub answers : Answers lentFrameCall r (before reply) (after reply) (after memory) (after lock)

@@ -23,7 +23,8 @@ fn where_held(places: &[u8; 64], i: usize) -> usize
 // then nothing changes.
 pub fn arrive(places: &mut [u8; 64], source: u16, tick: u16) -> usize
     ensures found { λ r.
-        ⌜ r ≡ cond (sound (placesIn (before places))) (placeOf source (dropDue tick (placesIn (before places)))) unsound ⌝ }
+        ⌜ r ≡ cond (sound (placesIn (before places))) (placeOf source (dropDue tick (placesIn (before places))))
+        unsound ⌝ }
     ensures places { λ _.
         ⌜ placesIn (after places) ≡ cond (sound (placesIn (before places))) (dropDue tick (placesIn (before places)))
         (placesIn (before places)) ⌝ }

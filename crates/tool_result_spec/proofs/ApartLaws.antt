@@ -9,7 +9,7 @@ use Rattle.tool_read_spec.specs.declared.LowestIn.the-variants.{NoLowest, Lowes
 use Rattle.tool_read_spec.specs.declared.AddressIn.the-variants.{NoAddress, AddressIs}
 use Rattle.tool_read_spec.specs.declared.ReplyIn.{ReplyIn}
 use Rattle.tool_read_spec.specs.declared.ReplyIn.the-variants as found
-use Rattle.tool_result_spec.specs.Numbers.{formNumber, textRange, fieldsOfReply, replyRefusal, refusalIn, formIs, textIs, replyIs, ToldApart}
+use Rattle.tool_result_spec.specs.Numbers.{formNumber, textRange, fieldsOfReply, replyRefusal, replyRefusalIn, formIs, textIs, replyIs, ToldApart}
 
 form-back : (form : Form) → formIs (formNumber form) ≡ form
 form-back NoSpace = refl
@@ -35,7 +35,7 @@ told-apart (found.Information present space highest flags NoAddress description)
 told-apart (found.Information present space highest flags (AddressIs low) description) = rw (text-back description)
 told-apart (found.Locked start n) = refl
 
-pub reply-refusal : (r : ReplyIn) → refusalIn (fieldsOfReply r) ≡ replyRefusal r
+pub reply-refusal : (r : ReplyIn) → replyRefusalIn (fieldsOfReply r) ≡ replyRefusal r
 unfolding fieldsOfReply
 reply-refusal found.NoReply = refl
 reply-refusal (found.Read form space address start n) = refl

@@ -37,28 +37,28 @@ pub data ToolRefusal : Type 0 where
   notRefused : ToolRefusal
 
 -- The paper's number of each, and 0 where nothing is refused.
-abbrev pub numberOf : ToolRefusal → ℕ
-numberOf w1 = 1
-numberOf w2 = 2
-numberOf w3 = 3
-numberOf notRefused = 0
+abbrev pub toolRefusalNumber : ToolRefusal → ℕ
+toolRefusalNumber w1 = 1
+toolRefusalNumber w2 = 2
+toolRefusalNumber w3 = 3
+toolRefusalNumber notRefused = 0
 
 -- ---- a command
 
 -- "The writer refuses with W1 a count or length out of range, then with W2 a lent buffer under 72 bytes"; else the
 -- command's length.
 abbrev pub composedOf : CommandWritten → Composed
-composedOf OutOfRange = record { refusal = numberOf w1; length = 0 }
-composedOf NoRoom = record { refusal = numberOf w2; length = 0 }
-composedOf (Length n) = record { refusal = numberOf notRefused; length = n }
+composedOf OutOfRange = record { refusal = toolRefusalNumber w1; length = 0 }
+composedOf NoRoom = record { refusal = toolRefusalNumber w2; length = 0 }
+composedOf (Length n) = record { refusal = toolRefusalNumber notRefused; length = n }
 
 -- ---- Received OK and Rejected
 
 -- "the reader gives W3 for a Received OK over 1 byte .. and for all else every field"
 abbrev pub acknowledgedOf : ReceivedIn → Acknowledged
-acknowledgedOf NotReceived = record { refusal = numberOf w3; pending = false; timeout = 0 }
+acknowledgedOf NotReceived = record { refusal = toolRefusalNumber w3; pending = false; timeout = 0 }
 acknowledgedOf (Received pending timeout) =
-    record { refusal = numberOf notRefused; pending = pending; timeout = timeout }
+    record { refusal = toolRefusalNumber notRefused; pending = pending; timeout = timeout }
 
 abbrev pub noRange : ByteRange
 noRange = record { given = false; start = 0; length = 0 }
@@ -68,8 +68,8 @@ rangeAt start n = record { given = true; start = start; length = n }
 
 -- W3 for "a Rejected over 66", and for all else every field.
 abbrev pub rejectionOf : RejectionIn → RejectionFields
-rejectionOf NotRejection = record { refusal = numberOf w3; code = 0; further = noRange }
-rejectionOf (Rejection code start n) = record { refusal = numberOf notRefused; code = code; further = rangeAt start n }
+rejectionOf NotRejection = record { refusal = toolRefusalNumber w3; code = 0; further = noRange }
+rejectionOf (Rejection code start n) = record { refusal = toolRefusalNumber notRefused; code = code; further = rangeAt start n }
 
 -- ---- replies
 
@@ -139,8 +139,8 @@ replyRefusal (found.Information present space highest flags low description) = n
 replyRefusal (found.Locked start n) = notRefused
 
 -- A reply has no field for a refusal: W3 is its kind 0.
-abbrev pub refusalIn : ReplyFields → ToolRefusal
-refusalIn f = cond (eqb (f .kind) 0) w3 notRefused
+abbrev pub replyRefusalIn : ReplyFields → ToolRefusal
+replyRefusalIn f = cond (eqb (f .kind) 0) w3 notRefused
 
 -- ---- no blank stands for something
 

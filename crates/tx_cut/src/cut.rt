@@ -54,7 +54,8 @@ pub fn cut_rest(rest: &[u8], aliases: u32, frames: &mut [u8; 160], n: usize) -> 
 // Up to 8 bytes go in a Single; otherwise the first 8 go in a First, and the rest is cut by the rule above. The frames
 // are put into the lent bytes from frame n on; the number of all is returned.
 pub fn cut_whole(datagram: &[u8], aliases: u32, frames: &mut [u8; 160], n: usize) -> usize
-    requires { ⌜ (aliases < 16777216) × (n + length (framesOf (aliases / 4096) (aliases % 4096) (now datagram)) ≤ 10) ⌝ }
+    requires { ⌜ (aliases < 16777216)
+        × (n + length (framesOf (aliases / 4096) (aliases % 4096) (now datagram)) ≤ 10) ⌝ }
     ensures count { λ r. ⌜ r ≡ n + length (framesOf (aliases / 4096) (aliases % 4096) (before datagram)) ⌝ }
     ensures bytes { λ _.
         ⌜ after frames ≡ putAt (16 * n) (framesBytes (framesOf (aliases / 4096) (aliases % 4096) (before datagram)))

@@ -12,7 +12,7 @@ use lib.Seq.{take-all}
 use borrow.Author.Tests.{le-leb, lt-leb, leb-true, leb-false, ne-eqb}
 use Rattle.buffer.proofs.Choice.{cond-elim, and-left, and-right}
 use Rattle.can_frame.specs.declared.Frame.{Frame}
-use Rattle.tx_cut_spec.specs.Cutting.{single, first, middle, last, restFrames, framesOf, aliases, b9, notRefused, numberOf, cutFrames, refusalIn, RefusedBy}
+use Rattle.tx_cut_spec.specs.Cutting.{single, first, middle, last, restFrames, framesOf, aliases, b9, cutAllowed, cutRefusalNumber, cutFrames, refusalOfCount, RefusedBy}
 
 -- ---- two aliases
 
@@ -129,7 +129,7 @@ module _ (d s : ℕ) (xs : List ℕ) where
   unfolding cutFrames
   refused-by e = rw e (go (leb (length xs) 72 && aliases d s))
     where
-      go : (t : Bool) → numberOf (refusalIn (length (cond t (framesOf d s xs) []))) ≡ numberOf (cond t notRefused b9)
+      go : (t : Bool) → cutRefusalNumber (refusalOfCount (length (cond t (framesOf d s xs) []))) ≡ cutRefusalNumber (cond t cutAllowed b9)
       go true = rw (ne-eqb (length (framesOf d s xs)) 0 (λ z. omega (arith, frames-some)))
       go false = refl
 

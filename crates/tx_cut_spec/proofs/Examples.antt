@@ -3,16 +3,16 @@
 use mathlib.Core.Path.{_≡_, refl}
 use mathlib.Core.List.{[]}
 use lib.ListN.{replicate}
-use Rattle.tx_cut_spec.specs.Cutting.{numberOf, cutRefusal}
+use Rattle.tx_cut_spec.specs.Cutting.{cutRefusalNumber, cutRefusal}
 
-over-72-bytes : numberOf (cutRefusal (replicate 73 0) 1 1) ≡ 9
+over-72-bytes : cutRefusalNumber (cutRefusal (replicate 73 0) 1 1) ≡ 9
 over-72-bytes = refl
 
-alias-over-4095 : numberOf (cutRefusal [] 4096 1) ≡ 9
+alias-over-4095 : cutRefusalNumber (cutRefusal [] 4096 1) ≡ 9
 alias-over-4095 = refl
 
-not-refused : numberOf (cutRefusal (replicate 72 0) 4095 0) ≡ 0
+not-refused : cutRefusalNumber (cutRefusal (replicate 72 0) 4095 0) ≡ 0
 not-refused = refl
 
-none-included : numberOf (cutRefusal [] 0 0) ≡ 0
+none-included : cutRefusalNumber (cutRefusal [] 0 0) ≡ 0
 none-included = refl

@@ -55,28 +55,28 @@ aliases a b = leb a 4095 && leb b 4095
 -- "B9, in cutting only and tested alone", or that nothing is refused.
 pub data CutRefusal : Type 0 where
   b9 : CutRefusal
-  notRefused : CutRefusal
+  cutAllowed : CutRefusal
 
 -- The paper's number, and 0 where nothing is refused.
-abbrev pub numberOf : CutRefusal → ℕ
-numberOf b9 = 9
-numberOf notRefused = 0
+abbrev pub cutRefusalNumber : CutRefusal → ℕ
+cutRefusalNumber b9 = 9
+cutRefusalNumber cutAllowed = 0
 
 -- B9: "more than 72 bytes, or an alias over 4,095;
 abbrev pub cutRefusal : List ℕ → ℕ → ℕ → CutRefusal
-cutRefusal xs d s = cond (leb (length xs) 72 && aliases d s) notRefused b9
+cutRefusal xs d s = cond (leb (length xs) 72 && aliases d s) cutAllowed b9
 
 -- no frame is made."
 unfoldable pub cutFrames : List ℕ → ℕ → ℕ → List Frame
 cutFrames xs d s = cond (leb (length xs) 72 && aliases d s) (framesOf d s xs) []
 
 -- What the number of frames made stands for: none is B9, and nothing else is.
-abbrev pub refusalIn : ℕ → CutRefusal
-refusalIn count = cond (eqb count 0) b9 notRefused
+abbrev pub refusalOfCount : ℕ → CutRefusal
+refusalOfCount count = cond (eqb count 0) b9 cutAllowed
 
 -- A cut that makes so many frames is refused with the number of B9 in its cases, and in no others.
 abbrev pub RefusedBy : List ℕ → ℕ → ℕ → ℕ → Type 0
-RefusedBy xs d s count = numberOf (refusalIn count) ≡ numberOf (cutRefusal xs d s)
+RefusedBy xs d s count = cutRefusalNumber (refusalOfCount count) ≡ cutRefusalNumber (cutRefusal xs d s)
 
 -- ---- cutting and joining
 
