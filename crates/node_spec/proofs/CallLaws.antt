@@ -109,14 +109,14 @@ check-passed x memory buffer g h = rw (g, le-ltb (length buffer) 72 h)
 -- a call with a buffer that is large enough is not refused
 fine-call : (x : Fixed) (st : State) (c : Contents) (k : Call) → MemoryFits x c → BufferFits k →
     makeCall x st c k ≡ handleInput B7BadReceptionState (handler x) (x .alias) st c (heardOf k .time) (heardOf k .input)
-fine-call x st c (frameAt t f buffer) g h = call-passed x buffer (tickAt t) st c f (check-passed x (c .memory) buffer g (omega (arith, h)))
+fine-call x st c (frameAt t f buffer) g h =
+    let passed : descriptionCheck (x .alias) (x .spaces) (length (x .flash)) (length (c .memory)) ≡ Passed = cc in
+    call-passed x buffer (tickAt t) st c f (check-passed x (c .memory) buffer passed (omega (arith, h)))
 fine-call x st c (loneTickAt t) g h = refl
 
 -- memory keeps its size, and with it the description its fitness
 keeps-fit : (x : Fixed) (c : Contents) (d : List ℕ) → MemoryFits x c → MemoryFits x (handle x c d .contents)
-keeps-fit x c d g =
-    let passed : descriptionCheck (x .alias) (x .spaces) (length (x .flash)) (length (c .memory)) ≡ Passed = cc in
-    rw (handle-keeps x c d) passed
+keeps-fit x c d g = rw (handle-keeps x c d) g
 
 node-order : (x : Fixed) → NodeOrder x
 node-order x = order heardOf BufferFits (MemoryFits x) B7BadReceptionState (handler x) (keeps-fit x) (x .alias) (makeCall x) (fine-call x)
