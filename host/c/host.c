@@ -101,28 +101,26 @@ typedef void (*take_line_function)(void *context, const struct bujorelm_parsed *
 /* Calls `take` with each line that the block completes; what is left is kept in the carry. */
 static void lines_feed(struct bujorelm_carry *carry, const uint8_t *block, size_t len, take_line_function take, void *context)
 {
-    size_t at = 0;
+    struct bujorelm_line line;
+    uint64_t at = 0;
 
     while (at < len) {
-        const struct bujorelm_line line = bujorelm_next_line(block, len, at, *carry);
-
+        at = bujorelm_next_line(block, len, at, carry, &line);
         if (line.complete) {
             take(context, &line.parsed);
         }
-        *carry = line.carry;
-        at = line.at;
     }
 }
 
 /* The end of the input: its last line may lack the newline. */
 static void lines_end(struct bujorelm_carry *carry, take_line_function take, void *context)
 {
-    const struct bujorelm_line line = bujorelm_last_line(*carry);
+    struct bujorelm_line line;
 
+    bujorelm_last_line(carry, &line);
     if (line.complete) {
         take(context, &line.parsed);
     }
-    *carry = line.carry;
 }
 
 /* ---- The board ---- */
@@ -256,7 +254,7 @@ static bool pipe_send(void *context, const struct bujorelm_frame *frame)
     struct pipe_host *const host = context;
 
     pipe_room(host);
-    host->len = bujorelm_print_frame(*frame, host->out, sizeof host->out, host->len);
+    host->len = bujorelm_print_frame(frame, host->out, sizeof host->out, host->len);
     return true;
 }
 
@@ -430,7 +428,7 @@ static void tool_append(struct tool *tool, const uint8_t *bytes, size_t len)
 static void hub_relay(struct hub *hub, const struct bujorelm_frame *frame, size_t but)
 {
     uint8_t text[BUJORELM_PRINTED_MAX];
-    const size_t len = bujorelm_print_frame(*frame, text, sizeof text, 0);
+    const size_t len = bujorelm_print_frame(frame, text, sizeof text, 0);
 
     for (size_t i = 0; i < hub->count; i++) {
         if (i != but) {

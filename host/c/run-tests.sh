@@ -64,7 +64,14 @@ for header in bujorelm.h bujorelm_tool.h; do
         includes "$header" -std=$standard $warnings
     done
     refuses "$header" -D_WIN32 "System V"
-    refuses "$header" -fshort-enums kinds_have_4_bytes
+    refuses "$header" -D__ILP32__ "System V"
+    refuses "$header" -fpack-struct space_size
+    # No layout hangs on the size of an enum or of a pointer. (The second is no platform of the library: it stands for those with pointers of 4
+    # bytes, where 64 bits begin at a multiple of 8.)
+    # shellcheck disable=SC2086
+    includes "$header" -std=c99 $warnings -fshort-enums
+    # shellcheck disable=SC2086
+    includes "$header" -std=c99 $warnings -ffreestanding -m32 -malign-double -D__x86_64__ -U__ILP32__
 done
 for standard in c++98 c++11 c++17; do
     # shellcheck disable=SC2086

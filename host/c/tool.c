@@ -252,6 +252,7 @@ struct explaining {
 
 static void explain_line(struct explaining *explaining, const struct bujorelm_parsed *line)
 {
+    struct bujorelm_acknowledged ok;
     struct answer answer;
 
     explaining->lines++;
@@ -267,18 +268,17 @@ static void explain_line(struct explaining *explaining, const struct bujorelm_pa
     if (!explain(&answer, NULL)) {
         explaining->status = STATUS_FAILED;
     }
-    explaining->awaited = answer.kind == ANSWER_RECEIVED_OK && bujorelm_read_received_ok(answer.bytes, answer.len).pending;
+    bujorelm_read_received_ok(answer.bytes, answer.len, &ok);
+    explaining->awaited = answer.kind == ANSWER_RECEIVED_OK && ok.pending;
 }
 
 static void explain_block(struct explaining *explaining, struct bujorelm_carry *carry, const uint8_t *block, size_t len)
 {
-    size_t at = 0;
+    struct bujorelm_line line;
+    uint64_t at = 0;
 
     while (at < len) {
-        const struct bujorelm_line line = bujorelm_next_line(block, len, at, *carry);
-
-        *carry = line.carry;
-        at = line.at;
+        at = bujorelm_next_line(block, len, at, carry, &line);
         if (line.complete) {
             explain_line(explaining, &line.parsed);
         }
@@ -286,11 +286,12 @@ static void explain_block(struct explaining *explaining, struct bujorelm_carry *
 }
 
 /* The end of the input. Nothing to explain is no answer, and neither is half of one. */
-static enum status explain_end(struct explaining *explaining, struct bujorelm_carry carry)
+static enum status explain_end(struct explaining *explaining, struct bujorelm_carry *carry)
 {
-    const struct bujorelm_line line = bujorelm_last_line(carry);
     const struct listener *const listener = &explaining->listener;
+    struct bujorelm_line line;
 
+    bujorelm_last_line(carry, &line);
     if (line.complete) {
         explain_line(explaining, &line.parsed);
     }
@@ -321,7 +322,7 @@ static enum status explain_input(const struct settings *settings)
         perror("tool: standard input");
         return STATUS_NO_ANSWER;
     }
-    return explain_end(&explaining, carry);
+    return explain_end(&explaining, &carry);
 }
 
 /* ---- The command line ---- */

@@ -141,11 +141,10 @@ void bus_close(struct bus *bus)
 /* Finds the next frame in the block; lines that are none are passed over. */
 static bool next_in_block(struct bus *bus)
 {
-    while (bus->at < bus->len) {
-        const struct bujorelm_line line = bujorelm_next_line(bus->block, bus->len, bus->at, bus->carry);
+    struct bujorelm_line line;
 
-        bus->carry = line.carry;
-        bus->at = line.at;
+    while (bus->at < bus->len) {
+        bus->at = bujorelm_next_line(bus->block, bus->len, bus->at, &bus->carry, &line);
         if (line.complete && line.parsed.good) {
             bus->frame = line.parsed.frame;
             return true;
@@ -170,10 +169,12 @@ static void acknowledge(struct bus *bus, const struct answer *answer)
     const uint16_t from = bus->listener.alias;
     const uint16_t to = bus->listener.board;
     struct bujorelm_frame frames[BUJORELM_SENT_MAX];
+    struct bujorelm_reply reply;
 
+    bujorelm_read_reply(answer->bytes, answer->len, &reply);
     if (answer->kind == ANSWER_OUT_OF_ORDER) {
         send_frames(bus, frames, bujorelm_rejected(from, to, answer->code, frames));
-    } else if (answer->kind == ANSWER_DATAGRAM && bujorelm_read_reply(answer->bytes, answer->len).kind == BUJORELM_REPLY_NONE) {
+    } else if (answer->kind == ANSWER_DATAGRAM && reply.kind == BUJORELM_REPLY_NONE) {
         send_frames(bus, frames, bujorelm_rejected(from, to, BUJORELM_CODE_INVALID_ARGUMENTS, frames));
     } else if (answer->kind == ANSWER_DATAGRAM) {
         send_frames(bus, frames, bujorelm_received_ok(from, to, BUJORELM_FLAGS_NONE, frames));
@@ -232,9 +233,10 @@ static struct waiting wait_from_now(unsigned seconds)
 static enum status take_answer(const struct bus *bus, const struct command *command, const struct answer *answer, struct waiting *waiting)
 {
     const bool well = explain(answer, command->kind == COMMAND_LOCK ? command->id : NULL);
-    const struct bujorelm_acknowledged ok = bujorelm_read_received_ok(answer->bytes, answer->len);
     const bool received = answer->kind == ANSWER_RECEIVED_OK;
+    struct bujorelm_acknowledged ok;
 
+    bujorelm_read_received_ok(answer->bytes, answer->len, &ok);
     if (answer->kind == ANSWER_OUT_OF_ORDER) {
         /* The board was told, and may send it again. */
         return STATUS_FAILED;
@@ -254,8 +256,9 @@ static enum status take_answer(const struct bus *bus, const struct command *comm
 /* Whether an answer is to this command and not to another. Received OK and Rejected do not say to which, and what is W3 is said in any case. */
 static bool is_to(const struct command *command, const struct answer *answer)
 {
-    const struct bujorelm_reply reply = bujorelm_read_reply(answer->bytes, answer->len);
+    struct bujorelm_reply reply;
 
+    bujorelm_read_reply(answer->bytes, answer->len, &reply);
     if (answer->kind != ANSWER_DATAGRAM || reply.kind == BUJORELM_REPLY_NONE || is_reply_to(command, &reply)) {
         return true;
     }

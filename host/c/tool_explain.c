@@ -109,8 +109,9 @@ static void print_code(uint16_t code)
 
 static bool explain_received_ok(const struct answer *answer)
 {
-    const struct bujorelm_acknowledged read = bujorelm_read_received_ok(answer->bytes, answer->len);
+    struct bujorelm_acknowledged read;
 
+    bujorelm_read_received_ok(answer->bytes, answer->len, &read);
     if (read.refusal != BUJORELM_REFUSAL_NONE) {
         printf("W3: a Received OK of more than %u byte:", BUJORELM_RECEIVED_OK_MAX);
         print_hex(answer->bytes, answer->len);
@@ -129,8 +130,9 @@ static bool explain_received_ok(const struct answer *answer)
 
 static bool explain_rejected(const struct answer *answer)
 {
-    const struct bujorelm_rejection read = bujorelm_read_rejected(answer->bytes, answer->len);
+    struct bujorelm_rejection read;
 
+    bujorelm_read_rejected(answer->bytes, answer->len, &read);
     if (read.refusal != BUJORELM_REFUSAL_NONE) {
         printf("W3: a Rejected of more than %u bytes:", BUJORELM_REJECTED_MAX);
         print_hex(answer->bytes, answer->len);
@@ -229,12 +231,15 @@ static bool explain_lock(const uint8_t *holder, const uint8_t *id)
 
 static bool explain_datagram(const struct answer *answer, const uint8_t *id)
 {
-    const struct bujorelm_reply reply = bujorelm_read_reply(answer->bytes, answer->len);
-    const unsigned long address = reply.address;
+    struct bujorelm_reply reply;
+    unsigned long address;
 
+    bujorelm_read_reply(answer->bytes, answer->len, &reply);
+    address = reply.address;
     switch (reply.kind) {
     case BUJORELM_REPLY_READ:
-        printf("%zu byte%s from address 0x%08lX of space 0x%02X:\n", reply.bytes.len, reply.bytes.len == 1 ? "" : "s", address, reply.space);
+        printf("%zu byte%s from address 0x%08lX of space 0x%02X:\n", (size_t)reply.bytes.len, reply.bytes.len == 1 ? "" : "s", address,
+               reply.space);
         print_memory(reply.address, answer->bytes + reply.bytes.start, reply.bytes.len);
         return true;
     case BUJORELM_REPLY_READ_FAILURE:

@@ -17,7 +17,7 @@ size_t print_frames(const struct bujorelm_frame *frames, size_t count, uint8_t *
     size_t len = 0;
 
     for (size_t i = 0; i < count; i++) {
-        len = bujorelm_print_frame(frames[i], text, LINES_MAX, len);
+        len = bujorelm_print_frame(&frames[i], text, LINES_MAX, len);
     }
     return len;
 }
@@ -53,9 +53,9 @@ static struct answer take_message(struct listener *listener, uint32_t message, c
 
 static struct answer take_datagram(struct listener *listener, const struct bujorelm_frame *frame)
 {
-    const struct bujorelm_joined joined =
-        bujorelm_join(listener->alias, listener->pool, &listener->reception, frame->header, frame->bytes, frame->len);
+    struct bujorelm_joined joined;
 
+    bujorelm_join(listener->alias, listener->pool, &listener->reception, frame->header, frame->bytes, frame->len, &joined);
     switch (joined.kind) {
     case BUJORELM_JOINED_REFUSED:
         return (struct answer){.kind = ANSWER_OUT_OF_ORDER, .code = joined.code};

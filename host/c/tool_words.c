@@ -99,10 +99,11 @@ static bool read_place(const struct words *words, struct command *command)
 
 /* What came of writing the command. `rule` is the one that W1 stands for, and `given` is how many there are; a command without a count or a
    length knows no W1. */
-static bool is_composed(const struct words *words, struct command *command, struct bujorelm_composed composed, const char *rule, size_t given)
+static bool is_composed(const struct words *words, struct command *command, const struct bujorelm_composed *composed, const char *rule,
+                        size_t given)
 {
-    command->len = composed.len;
-    switch (composed.refusal) {
+    command->len = composed->len;
+    switch (composed->refusal) {
     case BUJORELM_REFUSAL_NONE:
         return true;
     case BUJORELM_REFUSAL_W1:
@@ -111,30 +112,34 @@ static bool is_composed(const struct words *words, struct command *command, stru
     case BUJORELM_REFUSAL_W2:
     case BUJORELM_REFUSAL_W3:
     default:
-        complain(words, "W%d: the buffer for the command is too short", (int)composed.refusal);
+        complain(words, "W%d: the buffer for the command is too short", (int)composed->refusal);
         return false;
     }
 }
 
 static bool compose_read(const struct words *words, struct command *command)
 {
+    struct bujorelm_composed composed;
     uint64_t count;
 
-    return read_place(words, command) && read_number(words, "COUNT", words->word[3], 0, SIZE_MAX, &count) &&
-           is_composed(words, command,
-                       bujorelm_compose_read(command->space, command->address, (size_t)count, command->datagram, sizeof command->datagram),
-                       "a read asks for 1 to 64 bytes", (size_t)count);
+    if (!read_place(words, command) || !read_number(words, "COUNT", words->word[3], 0, SIZE_MAX, &count)) {
+        return false;
+    }
+    bujorelm_compose_read(command->space, command->address, count, command->datagram, sizeof command->datagram, &composed);
+    return is_composed(words, command, &composed, "a read asks for 1 to 64 bytes", (size_t)count);
 }
 
 static bool compose_write(const struct words *words, struct command *command)
 {
     const size_t count = words->count - 3;
     uint8_t bytes[WORDS_MAX];
+    struct bujorelm_composed composed;
 
-    return read_place(words, command) && read_bytes(words, 3, "BYTE", bytes) &&
-           is_composed(words, command,
-                       bujorelm_compose_write(command->space, command->address, bytes, count, command->datagram, sizeof command->datagram),
-                       "a write has 1 to 64 bytes", count);
+    if (!read_place(words, command) || !read_bytes(words, 3, "BYTE", bytes)) {
+        return false;
+    }
+    bujorelm_compose_write(command->space, command->address, bytes, count, command->datagram, sizeof command->datagram, &composed);
+    return is_composed(words, command, &composed, "a write has 1 to 64 bytes", count);
 }
 
 static bool compose_masked_write(const struct words *words, struct command *command)
@@ -146,37 +151,46 @@ static bool compose_masked_write(const struct words *words, struct command *comm
     if (!read_place(words, command) || !read_bytes(words, 3, "MASK or DATA", pairs)) {
         return false;
     }
-    composed = bujorelm_compose_masked_write(command->space, command->address, pairs, count, command->datagram, sizeof command->datagram);
+    bujorelm_compose_masked_write(command->space, command->address, pairs, count, command->datagram, sizeof command->datagram, &composed);
     if (composed.refusal == BUJORELM_REFUSAL_W1 && count % 2 == 1) {
         complain(words, "W1: a mask without its data");
         return false;
     }
-    return is_composed(words, command, composed, "a masked write has 1 to 32 pairs of a mask and its data", count / 2);
+    return is_composed(words, command, &composed, "a masked write has 1 to 32 pairs of a mask and its data", count / 2);
 }
 
 static bool compose_information(const struct words *words, struct command *command)
 {
+    struct bujorelm_composed composed;
     uint64_t space;
 
     if (!read_number(words, "SPACE", words->word[1], 0, 0xFF, &space)) {
         return false;
     }
     command->space = (uint8_t)space;
-    return is_composed(words, command, bujorelm_compose_information(command->space, command->datagram, sizeof command->datagram), "", 0);
+    bujorelm_compose_information(command->space, command->datagram, sizeof command->datagram, &composed);
+    return is_composed(words, command, &composed, "", 0);
 }
 
 static bool compose_options(const struct words *words, struct command *command)
 {
-    return is_composed(words, command, bujorelm_compose_options(command->datagram, sizeof command->datagram), "", 0);
+    struct bujorelm_composed composed;
+
+    bujorelm_compose_options(command->datagram, sizeof command->datagram, &composed);
+    return is_composed(words, command, &composed, "", 0);
 }
 
 static bool compose_lock(const struct words *words, struct command *command)
 {
     uint8_t id[WORDS_MAX];
+    struct bujorelm_composed composed;
     size_t len;
 
-    if (!read_id(words, words->word[1], id, &len) ||
-        !is_composed(words, command, bujorelm_compose_lock(id, len, command->datagram, sizeof command->datagram), "an ID has 6 bytes", len)) {
+    if (!read_id(words, words->word[1], id, &len)) {
+        return false;
+    }
+    bujorelm_compose_lock(id, len, command->datagram, sizeof command->datagram, &composed);
+    if (!is_composed(words, command, &composed, "an ID has 6 bytes", len)) {
         return false;
     }
     memcpy(command->id, id, sizeof command->id);
@@ -186,13 +200,18 @@ static bool compose_lock(const struct words *words, struct command *command)
 /* The ID of the fresh command is all zero, which is the one that releases. */
 static bool compose_release(const struct words *words, struct command *command)
 {
-    return is_composed(words, command,
-                       bujorelm_compose_lock(command->id, sizeof command->id, command->datagram, sizeof command->datagram), "", 0);
+    struct bujorelm_composed composed;
+
+    bujorelm_compose_lock(command->id, sizeof command->id, command->datagram, sizeof command->datagram, &composed);
+    return is_composed(words, command, &composed, "", 0);
 }
 
 static bool compose_update_complete(const struct words *words, struct command *command)
 {
-    return is_composed(words, command, bujorelm_compose_update_complete(command->datagram, sizeof command->datagram), "", 0);
+    struct bujorelm_composed composed;
+
+    bujorelm_compose_update_complete(command->datagram, sizeof command->datagram, &composed);
+    return is_composed(words, command, &composed, "", 0);
 }
 
 /* The commands: what stands behind the name, and how many words that are. */

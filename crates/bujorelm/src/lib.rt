@@ -1,20 +1,23 @@
 // The edge to C: what a CAN driver calls. Everything is lent: a slice is a pointer and then a length, an array of a
-// fixed length is a pointer. What comes of a call is numbers in two registers.
-use can_frame::Frame;
-use capi_words::CallResult;
-use gridconnect_input::Carry;
-use gridconnect_input::Next;
-use gridconnect_parse::Parsed;
+// fixed length is a pointer. What comes of a call is numbers in bytes that are lent too: nothing goes over by value but
+// numbers of at most 64 bits.
+use capi_lines::CarryBytes;
+use capi_lines::LineBytes;
+use capi_lines::ParsedBytes;
+use capi_numbers::ResultBytes;
+use exec_registers::Registers;
 ghost use mathlib.Core.Path.{_≡_};
-ghost use mathlib.Core.List.{List, []};
+ghost use mathlib.Core.List.{List};
 ghost use Prim.Native.Nat.{ℕ};
 ghost use Rattle.buffer.specs.Lent.{before, after};
 ghost use Rattle.tx_cut_spec.specs.Cutting.{cutFrames, RefusedBy};
 ghost use Rattle.tx_transport.specs.Transport.{receivedOk, rejectedWith};
 ghost use Rattle.exec_spec.specs.Handling.{Contents};
+ghost use Rattle.can_frame_bytes.specs.Layout.{frameInBytes};
 ghost use Rattle.gridconnect_print.specs.Line.{frameText, Printed};
 ghost use Rattle.gridconnect_parse.specs.Parsing.{parseOf};
-ghost use Rattle.gridconnect_input.specs.Input.{carryOf, line, nextOf, lastOf};
+ghost use Rattle.gridconnect_input.specs.Input.{nextOf, lastOf};
+ghost use Rattle.capi_lines.specs.Lines.{parsedBytes, carryIn, Step};
 ghost use Rattle.bujorelm.specs.Returns.{DatagramReturns, FrameReturns, TickReturns, FramesMade};
 
 // The version of this edge, major in the upper 16 bits and minor in the lower: a header of the same major and of no
@@ -37,7 +40,7 @@ pub extern "C" fn bujorelm_handle_frame(
     spaces: &[u8],
     flash: &[u8],
     memory: &mut [u8],
-    lock: &mut [u8; 6],
+    registers: &mut Registers,
     pool: &mut [u8; 576],
     places: &mut [u8; 64],
     tick: u16,
@@ -45,9 +48,11 @@ pub extern "C" fn bujorelm_handle_frame(
     payload: &[u8],
     reply: &mut [u8],
     frames: &mut [u8; 160],
-) -> CallResult
-    ensures { λ r.
-        ⌜ FrameReturns alias «write_lengths» spaces flash memory lock pool places tick header payload reply frames r ⌝ }
+    result: &mut ResultBytes,
+)
+    ensures { λ _.
+        ⌜ FrameReturns alias «write_lengths» spaces flash memory registers pool places tick header payload reply frames
+        result ⌝ }
 {
     let sent = node_bus::answer_frame(
         alias,
@@ -55,7 +60,7 @@ pub extern "C" fn bujorelm_handle_frame(
         spaces,
         flash,
         memory,
-        lock,
+        registers,
         pool,
         places,
         tick,
@@ -65,15 +70,15 @@ pub extern "C" fn bujorelm_handle_frame(
         frames,
     );
     let answer = sent.answer;
-    capi_result::of_frame(answer, sent.count)
+    capi_result::of_frame(answer, sent.count, result)
 }
 
 // Hears a tick that comes with no frame: the only error of the caller that it tests is B7.
 #[no_mangle]
-pub extern "C" fn bujorelm_handle_tick(places: &mut [u8; 64], tick: u16) -> CallResult
-    ensures { λ r. ⌜ ((pool : List ℕ) (c : Contents) → TickReturns places tick r pool c) ⌝ }
+pub extern "C" fn bujorelm_handle_tick(places: &mut [u8; 64], tick: u16, result: &mut ResultBytes)
+    ensures { λ _. ⌜ ((pool : List ℕ) (c : Contents) → TickReturns places tick result pool c) ⌝ }
 {
-    capi_result::of_tick(node_call::handle_tick(places, tick))
+    capi_result::of_tick(node_call::handle_tick(places, tick), result)
 }
 
 // Handles a datagram that is handed over whole.
@@ -84,11 +89,12 @@ pub extern "C" fn bujorelm_handle_datagram(
     spaces: &[u8],
     flash: &[u8],
     memory: &mut [u8],
-    lock: &mut [u8; 6],
+    registers: &mut Registers,
     datagram: &[u8],
     reply: &mut [u8],
-) -> CallResult
-    ensures { λ r. ⌜ DatagramReturns alias «write_lengths» spaces flash memory lock datagram reply r ⌝ }
+    result: &mut ResultBytes,
+)
+    ensures { λ _. ⌜ DatagramReturns alias «write_lengths» spaces flash memory registers datagram reply result ⌝ }
 {
     let handled = node_call::handle_datagram(
         alias,
@@ -96,11 +102,11 @@ pub extern "C" fn bujorelm_handle_datagram(
         spaces,
         flash,
         memory,
-        lock,
+        registers,
         datagram,
         reply,
     );
-    capi_result::of_handled(handled)
+    capi_result::of_handled(handled, result)
 }
 
 // Cuts a reply of the board into frames to a tool, and gives their number; 0 where B9 refuses it.
@@ -145,58 +151,39 @@ pub extern "C" fn bujorelm_rejected(
 
 // Reads a GridConnect line without its newline.
 #[no_mangle]
-pub extern "C" fn bujorelm_parse_line(line: &[u8]) -> Parsed
-    ensures { λ r. ⌜ r ≡ parseOf (before line) ⌝ }
+pub extern "C" fn bujorelm_parse_line(line: &[u8], parsed: &mut ParsedBytes)
+    ensures { λ _. ⌜ after parsed ≡ parsedBytes (parseOf (before line)) ⌝ }
 {
-    gridconnect_parse::parse_line(line)
+    capi_lines::parse_line(line, parsed)
 }
 
-// Prints a frame as a GridConnect line with its newline, from an index of the buffer on.
+// Prints a frame as a GridConnect line with its newline, from an index of the buffer on, and gives the index past it.
 #[no_mangle]
-pub extern "C" fn bujorelm_print_frame(frame: Frame, out: &mut [u8], at: usize) -> usize
-    ensures { λ r. ⌜ Printed at (frameText frame) (before out) r (after out) ⌝ }
+pub extern "C" fn bujorelm_print_frame(frame: &[u8; 16], out: &mut [u8], at: usize) -> usize
+    ensures { λ r. ⌜ Printed at (frameText (frameInBytes (before frame) 0)) (before out) r (after out) ⌝ }
 {
-    gridconnect_print::print_frame(frame, out, at)
+    capi_lines::print_frame(frame, out, at)
 }
 
-// A step that completes a line, made part by part: one that is copied whole, behind what made its parts, waits for them
-// in memory.
-fn completed(parsed: Parsed, at: usize) -> Next
-    ensures { λ r. ⌜ r ≡ line parsed (carryOf []) at ⌝ }
-{
-    let bytes = parsed.frame.bytes;
-    Next {
-        complete: true,
-        parsed: Parsed {
-            good: parsed.good,
-            frame: Frame {
-                header: parsed.frame.header,
-                len: parsed.frame.len,
-                bytes,
-            },
-        },
-        carry: gridconnect_input::start(),
-        at,
-    }
-}
-
-// The next line of an input that comes in chunks, from an index of the chunk on; the carry is the beginning of a line
-// that an earlier chunk left.
+// The next line of an input that comes in chunks, from an index of the chunk on, and the index up to which the chunk is
+// read. The carry is the beginning of a line that an earlier chunk left, and becomes what this one leaves.
 #[no_mangle]
-pub extern "C" fn bujorelm_next_line(chunk: &[u8], from: usize, carry: Carry) -> Next
-    ensures { λ r. ⌜ r ≡ nextOf carry (before chunk) from ⌝ }
+pub extern "C" fn bujorelm_next_line(
+    chunk: &[u8],
+    from: usize,
+    carry: &mut CarryBytes,
+    line: &mut LineBytes,
+) -> usize
+    ensures { λ r. ⌜ r ≡ nextOf (carryIn (before carry)) (before chunk) from .at ⌝ }
+    ensures step { λ _. ⌜ Step (nextOf (carryIn (before carry)) (before chunk) from) carry line ⌝ }
 {
-    let next = gridconnect_lines::next_line(chunk, from, carry);
-    if next.complete {
-        return completed(next.parsed, next.at);
-    }
-    next
+    capi_lines::next_line(chunk, from, carry, line)
 }
 
 // The end of such an input.
 #[no_mangle]
-pub extern "C" fn bujorelm_last_line(carry: Carry) -> Next
-    ensures { λ r. ⌜ r ≡ lastOf carry ⌝ }
+pub extern "C" fn bujorelm_last_line(carry: &mut CarryBytes, line: &mut LineBytes)
+    ensures { λ _. ⌜ Step (lastOf (carryIn (before carry))) carry line ⌝ }
 {
-    gridconnect_lines::last_line(carry)
+    capi_lines::last_line(carry, line)
 }

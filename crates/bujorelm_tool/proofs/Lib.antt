@@ -1,1 +1,2 @@
 pub mod ToolLaws
+pub mod JoinedLaws

@@ -63,7 +63,7 @@ numbers-length t i (suc n) = ap suc (numbers-length t (i + 1) n)
 
 -- a mark for each number, the bit at its remainder: where setting it changes the marks, no earlier space has the number
 abbrev pub markOf : ℕ → ℕ
-markOf n = (1 * 2 ^ (n % 64)) % 2 ^ 64
+markOf n = (1 * 2 ^ (n % 32)) % 2 ^ 32
 
 abbrev pub Marks : ℕ → List ℕ → Type 0
 Marks marks earlier = (k : ℕ) → (bitOr marks (markOf k) ≡ marks → ⊥) → among k earlier ≡ false

@@ -23,20 +23,20 @@ pub fn check_spaces(table: &[u8], flash_len: usize, memory_len: usize) -> Checke
 }
 
 // Whether the spaces pass a quick look, which knows nothing of positions; where they do, nothing refuses them. Each
-// sets a mark, the bit at the remainder of its number by 64: as long as each changes the marks, no number is used
+// sets a mark, the bit at the remainder of its number by 32: as long as each changes the marks, no number is used
 // twice.
 fn pass_quickly(table: &[u8], flash_len: usize, memory_len: usize) -> bool
     ensures { λ r. ⌜ (r ≡ true → spacesCheck «flash_len» «memory_len» [] (spacesIn (before table)) ≡ Passed) ⌝ }
 {
     let count = space_table::space_count(table);
-    let mut marks = 0u64;
+    let mut marks = 0u32;
     let mut i = 0;
     while i < count {
         let space = space_table::space_at(table, i);
         if !call_limits::window_passes(space, flash_len, memory_len) {
             return false;
         }
-        let marked = marks | 1u64 << (space.number % 64);
+        let marked = marks | 1u32 << (space.number % 32);
         if marked == marks {
             return false;
         }

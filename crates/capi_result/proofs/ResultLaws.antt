@@ -1,7 +1,7 @@
 -- Laws of a call's numbers: those of a call have room in their bytes, and memory changed nowhere but in the range that they name.
 -- Assumes nothing.
 use Prim.Native.Nat.{ℕ, _≤_, min}
-use mathlib.Core.Path.{_≡_, refl, _∙_}
+use mathlib.Core.Path.{_≡_, refl, ap, subst, _∙_}
 use mathlib.Core.List.{List}
 use native.Mathlib.Omega.{arith}
 use Rattle.exec_store.specs.Storing.{OnlyWithin}
@@ -15,24 +15,23 @@ use Rattle.node_spec.specs.declared.Handled.the-variants as handled
 use Rattle.node_spec.specs.FrameCall.{SmallFrame, FrameChanges}
 use Rattle.node_spec.specs.declared.FrameAnswer.{FrameAnswer}
 use Rattle.node_spec.specs.declared.FrameAnswer.the-variants as frame
-use Rattle.capi_words.specs.Words.{allNumbers, noPosition, inBytes}
-use Rattle.capi_words.specs.declared.CallResult.{CallResult}
+use Rattle.capi_numbers.specs.Numbers.{allNumbers, noPosition, inBytes, resultBytes}
 use Rattle.capi_result.specs.Result.{answerNumbers, handledNumbers, frameNumbers}
 
 -- ---- room
 
-has-room : (kind error position flags code index n reply frames : ℕ) → index ≤ 65536 → n ≤ 64 → reply ≤ 72 → frames ≤ 10
+has-room : (kind error position flags code index n reply frames : ℕ) → index ≤ 65536 → n ≤ 65536 → reply ≤ 72 → frames ≤ 10
     → inBytes (allNumbers kind error position flags code index n reply frames) ≡ allNumbers kind error position flags code index n reply frames
 has-room kind error position flags code index n reply frames a b c d =
     let i : min index 0xFFFFFFFF ≡ index = omega arith in
-    let j : min n 255 ≡ n = omega arith in
+    let j : min n 0xFFFFFFFF ≡ n = omega arith in
     let k : min reply 255 ≡ reply = omega arith in
     let l : min frames 255 ≡ frames = omega arith in
     rw (i, j, k, l)
 
 answer-room : (a : Answer) (frames : ℕ) → SmallAnswer a → frames ≤ 10 → inBytes (answerNumbers a frames) ≡ answerNumbers a frames
 answer-room (answer.Rejected code) frames s h = has-room 4 0 noPosition 0 code 0 0 0 frames (omega arith) (omega arith) (omega arith) h
-answer-room (answer.Written index n) frames s h = has-room 5 0 noPosition 0 0 index n 0 frames (omega (arith, s .0)) (s .1) (omega arith) h
+answer-room (answer.Written index n) frames s h = has-room 5 0 noPosition 0 0 index n 0 frames (omega (arith, s .0)) (omega (arith, s .1)) (omega arith) h
 answer-room answer.UpdateComplete frames s h = has-room 7 0 noPosition 0 0 0 0 0 frames (omega arith) (omega arith) (omega arith) h
 answer-room (answer.Replied n) frames s h = has-room 6 0 noPosition 0x80 0 0 0 n frames (omega arith) (omega arith) s h
 
@@ -71,18 +70,22 @@ module _ (old new : List ℕ) where
   frame-within (frame.TransportRefusal code) frames e = none-changed e
   frame-within (frame.Answered a) frames e = answer-within a frames e
 
--- ---- the numbers that the code gives
+-- ---- what the code gives is what its answer was proved to be
 
-module _ {r : CallResult} (h : Handled) (e : r ≡ inBytes (handledNumbers h)) (small : SmallHandled h) where
-  pub handled-exact : r ≡ handledNumbers h
-  handled-exact = e ∙ handled-room h small
+module _ {r h : Handled} (same : r ≡ h) where
+  pub handled-told : {bytes : List ℕ} → bytes ≡ resultBytes (inBytes (handledNumbers r)) → SmallHandled r → bytes ≡ resultBytes (handledNumbers h)
+  handled-told e small = e ∙ ap resultBytes (handled-room r small) ∙ ap (λ (x : Handled). resultBytes (handledNumbers x)) same
 
-  pub handled-range : (old new : List ℕ) → HandledChanges h old new → OnlyWithin (r .«changed_at») (r .«changed_len») old new
-  handled-range old new q = rw handled-exact (handled-within old new h q)
+  pub handled-range : (old new : List ℕ) → HandledChanges r old new → OnlyWithin (handledNumbers h .«changed_at») (handledNumbers h .«changed_len») old new
+  handled-range old new q = subst (λ (x : Handled). OnlyWithin (handledNumbers x .«changed_at») (handledNumbers x .«changed_len») old new) same (handled-within old new r q)
 
-module _ {r : CallResult} (a : FrameAnswer) (n : ℕ) (e : r ≡ inBytes (frameNumbers a n)) (small : SmallFrame a) (few : n ≤ 10) where
-  pub frame-exact : r ≡ frameNumbers a n
-  frame-exact = e ∙ frame-room a n small few
+module _ {r a : FrameAnswer} {n frames : ℕ} (same : r ≡ a) (count : n ≡ frames) where
+  pub frame-told : {bytes : List ℕ} → bytes ≡ resultBytes (inBytes (frameNumbers r n)) → SmallFrame r → n ≤ 10 → bytes ≡ resultBytes (frameNumbers a frames)
+  frame-told e small few =
+      e
+      ∙ ap resultBytes (frame-room r n small few)
+      ∙ ap (λ (x : FrameAnswer). resultBytes (frameNumbers x n)) same
+      ∙ ap (λ (k : ℕ). resultBytes (frameNumbers a k)) count
 
-  pub frame-range : (old new : List ℕ) → FrameChanges a old new → OnlyWithin (r .«changed_at») (r .«changed_len») old new
-  frame-range old new q = rw frame-exact (frame-within old new a n q)
+  pub frame-range : (old new : List ℕ) → FrameChanges r old new → OnlyWithin (frameNumbers a frames .«changed_at») (frameNumbers a frames .«changed_len») old new
+  frame-range old new q = subst (λ (x : FrameAnswer). OnlyWithin (frameNumbers x frames .«changed_at») (frameNumbers x frames .«changed_len») old new) same (frame-within old new r frames q)

@@ -10,8 +10,8 @@ use Rattle.node_spec.specs.declared.Handled.{Handled}
 use Rattle.node_spec.specs.declared.Handled.the-variants as handled
 use Rattle.node_spec.specs.declared.FrameAnswer.{FrameAnswer}
 use Rattle.node_spec.specs.declared.FrameAnswer.the-variants as frame
-use Rattle.capi_words.specs.Words.{kindIgnored, kindJoined, kindTransportRefusal, kindRejected, kindWritten, kindReplied, kindUpdateComplete, noPosition, refusalNumbers, numbers}
-use Rattle.capi_words.specs.declared.CallResult.{CallResult}
+use Rattle.capi_numbers.specs.Numbers.{kindIgnored, kindJoined, kindTransportRefusal, kindRejected, kindWritten, kindReplied, kindUpdateComplete, noPosition, refusalNumbers, numbers}
+use Rattle.capi_numbers.specs.declared.CallResult.{CallResult}
 
 -- The number that stands for a position.
 abbrev pub positionNumber : Position → ℕ

@@ -1,10 +1,11 @@
 -- Document 01, "Commands": the fields of a datagram, and the requests that it can make.
-use Prim.Native.Nat.{ℕ, _%_}
+use Prim.Native.Nat.{ℕ, _+_, _*_, _/_, _%_}
+use mathlib.Core.Path.{_≡_}
 use mathlib.Core.Bool.{Bool, cond, _&&_}
-use mathlib.Core.List.{List, [], _∷_}
+use mathlib.Core.List.{List, [], _∷_, _++_}
 use lib.Dec.{leb, eqb}
 use lib.ListN.{getD, drop}
-use Rattle.buffer.specs.BigEndian.{numberOf}
+use Rattle.buffer.specs.BigEndian.{numberOf, bytesOf}
 use Rattle.cmd_fields.specs.declared.Form.{Form}
 use Rattle.cmd_fields.specs.declared.Form.the-variants.{NoSpace, Byte6, Fd, Fe, Ff}
 use Rattle.cmd_fields.specs.declared.Kind.{Kind}
@@ -57,13 +58,17 @@ lowForm low = cond (eqb low 0) Byte6 (cond (eqb low 1) Fd (cond (eqb low 2) Fe F
 abbrev pub formOf : ℕ → Form
 formOf c = cond (leb 0x80 c) NoSpace (lowForm (c % 4))
 
--- The low two bits again, for a reply.
+-- The low two bits again.
 abbrev pub formBits : Form → ℕ
 formBits NoSpace = 0
 formBits Byte6 = 0
 formBits Fd = 1
 formBits Fe = 2
 formBits Ff = 3
+
+-- A command with the low two bits of a form.
+abbrev pub withForm : ℕ → Form → ℕ
+withForm command form = command / 4 * 4 + formBits form
 
 -- "the space byte if the command had one"
 abbrev pub spaceByte : Form → ℕ → List ℕ
@@ -72,6 +77,19 @@ spaceByte Byte6 n = n ∷ []
 spaceByte Fd n = []
 spaceByte Fe n = []
 spaceByte Ff n = []
+
+-- The low two bits 1, 2, 3 name the spaces 0xFD, 0xFE, 0xFF, and byte 6 any.
+abbrev pub Names : Form → ℕ → Type 0
+Names NoSpace space = ⊥
+Names Byte6 space = Unit {0}
+Names Fd space = space ≡ 0xFD
+Names Fe space = space ≡ 0xFE
+Names Ff space = space ≡ 0xFF
+
+-- The first bytes of every command and reply that has an address: 0x20, byte 1 with the low two bits of the form, "Bytes
+-- 2–5 are the address, most significant first", and byte 6 only where the low two bits are zero.
+unfoldable pub headBytes : ℕ → Form → ℕ → ℕ → List ℕ
+headBytes command form space address = 0x20 ∷ withForm command form ∷ (bytesOf address ++ spaceByte form space)
 
 -- The number of the space.
 abbrev pub spaceOf : Form → List ℕ → ℕ

@@ -1,8 +1,9 @@
 // The fields of a datagram, each read from the datagram itself.
 ghost use mathlib.Core.Path.{_≡_};
+ghost use Prim.Native.Nat.{_≤_};
 ghost use lib.ListN.{getD, drop};
 ghost use Rattle.buffer.specs.Lent.{before};
-ghost use Rattle.cmd_fields.specs.Commands.{kindOfCommand, formOf, formIn, headLength, addressOf, spaceOf};
+ghost use Rattle.cmd_fields.specs.Commands.{kindOfCommand, formOf, formBits, withForm, formIn, headLength, addressOf, spaceOf};
 
 // Where a command names its space: nowhere, in byte 6, or by the low two bits 1, 2, 3 of byte 1.
 pub enum Form {
@@ -57,6 +58,26 @@ pub fn form_of(command: u8) -> Form
         return Form::Fe;
     }
     Form::Ff
+}
+
+// The low two bits of a form.
+fn form_bits(form: Form) -> u8
+    ensures { λ r. ⌜ (r ≡ formBits form) × (r ≤ 3) ⌝ }
+{
+    match form {
+        Form::NoSpace => 0,
+        Form::Byte6 => 0,
+        Form::Fd => 1,
+        Form::Fe => 2,
+        Form::Ff => 3,
+    }
+}
+
+// A command with the low two bits of a form in place of its own.
+pub fn with_form(command: u8, form: Form) -> u8
+    ensures { λ r. ⌜ r ≡ withForm command form ⌝ }
+{
+    command / 4 * 4 + form_bits(form)
 }
 
 // How many bytes stand before the remaining ones.

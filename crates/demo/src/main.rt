@@ -1,6 +1,7 @@
 // The demonstration program of document 01: reads GridConnect lines from standard input to its end, and prints what the
 // demonstration board answers to each. What it prints is the library's (crate `gridconnect_session`): this program only
 // reads and writes.
+use exec_registers::Registers;
 use gridconnect_input::Carry;
 
 mod standard;
@@ -20,7 +21,7 @@ fn answer_block(
     spaces: &[u8],
     flash: &[u8],
     memory: &mut [u8],
-    lock: &mut [u8; 6],
+    registers: &mut Registers,
     pool: &mut [u8; 576],
     places: &mut [u8; 64],
     block: &[u8],
@@ -38,7 +39,7 @@ fn answer_block(
             spaces,
             flash,
             memory,
-            lock,
+            registers,
             pool,
             places,
             block,
@@ -60,7 +61,7 @@ fn answer_read(
     spaces: &[u8],
     flash: &[u8],
     memory: &mut [u8],
-    lock: &mut [u8; 6],
+    registers: &mut Registers,
     pool: &mut [u8; 576],
     places: &mut [u8; 64],
     begun: Carry,
@@ -72,7 +73,17 @@ fn answer_read(
     let n = standard::read(input);
     if n > 0 {
         let block = buffer::part(input, 0, n);
-        return answer_block(spaces, flash, memory, lock, pool, places, block, begun, out);
+        return answer_block(
+            spaces,
+            flash,
+            memory,
+            registers,
+            pool,
+            places,
+            block,
+            begun,
+            out,
+        );
     }
     let end = gridconnect_session::answer_end(
         demo_board::alias(),
@@ -80,7 +91,7 @@ fn answer_read(
         spaces,
         flash,
         memory,
-        lock,
+        registers,
         pool,
         places,
         begun,
@@ -98,7 +109,7 @@ fn main() {
     let spaces = demo_board::table_bytes();
     let flash = demo_board::flash_bytes();
     let mut memory = demo_board::memory_bytes();
-    let mut lock = [0u8; 6];
+    let mut registers = exec_registers::new_registers();
     let mut pool = [0u8; 576];
     let mut places = rx_spec::new_places();
     let mut input = io::large_buffer();
@@ -111,7 +122,7 @@ fn main() {
             &spaces,
             &flash,
             &mut memory,
-            &mut lock,
+            &mut registers,
             &mut pool,
             &mut places,
             carry,

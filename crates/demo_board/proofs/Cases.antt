@@ -8,10 +8,9 @@ use Rattle.space_lookup.specs.Description.{findSpace}
 use Rattle.space_table.specs.Table.{rowAt, spacesFrom, spacesIn}
 use Rattle.call_error.specs.CallErrors.{among, spacesCheck, descriptionCheck}
 use Rattle.call_error.specs.declared.Checked.the-variants.{Passed}
-use Rattle.cmd_fields.specs.Commands.{kindOfCommand, restOf}
+use Rattle.cmd_fields.specs.Commands.{kindOfCommand, headBytes, restOf}
 use Rattle.cmd_decode.specs.Decoding.{decodeRead, decodeWrite, decodeMasked, decodeKind, decode}
 use Rattle.buffer.specs.Buffer.{putAt, placed}
-use Rattle.reply_head.specs.Head.{replyHead}
 use Rattle.reply_datagram.specs.Inquiry.{informationReply}
 use Rattle.exec_spec.specs.Access.{readResult, writeResult, memoryAfter}
 use Rattle.exec_spec.specs.Handling.{Outcome, outcome, perform, handle}
@@ -19,7 +18,7 @@ use Rattle.demo_board.specs.Board.{rowOf, demoSpaces, demoFlash, demoMem
 use Rattle.demo_board.specs.Cases.{cases, ProvedCases}
 
 pub proved-cases : ProvedCases
-unfolding descriptionCheck spacesCheck among findSpace kindOfCommand restOf decodeRead decodeWrite decodeMasked decodeKind decode putAt placed replyHead informationReply readResult writeResult memoryAfter perform handle
+unfolding descriptionCheck spacesCheck among findSpace kindOfCommand restOf decodeRead decodeWrite decodeMasked decodeKind decode putAt placed headBytes informationReply readResult writeResult memoryAfter perform handle
 proved-cases = record { good = refl; answered = refl }
 
 -- the four rows put into the table, one after the other

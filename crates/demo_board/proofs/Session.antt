@@ -6,19 +6,18 @@ use Rattle.can_frame.specs.Frame.{kindOfFrame, addressed, roleOf, frameOf}
 use Rattle.space_lookup.specs.Description.{findSpace}
 use Rattle.call_error.specs.CallErrors.{among, spacesCheck, descriptionCheck}
 use Rattle.cmd_fields.specs.Commands as commands
-use Rattle.cmd_fields.specs.Commands.{pairsOf, restOf}
+use Rattle.cmd_fields.specs.Commands.{pairsOf, headBytes, restOf}
 use Rattle.cmd_decode.specs.Decoding.{decodeRead, decodeWrite, decodeMasked, decodeKind, decode}
-use Rattle.rx_spec.specs.Ticks.{isDue, dropDue}
+use Rattle.rx_place_spec.specs.Ticks.{isDue, dropDue}
 use Rattle.rx_spec.specs.Order.{handleFrame}
-use Rattle.rx_spec.specs.PlaceBytes.{placesIn}
+use Rattle.rx_place_spec.specs.PlaceBytes.{placesIn}
 use Rattle.rx_spec.specs.Reception.{isFor, keptIn, joinSound, receive}
 use Rattle.tx_cut_spec.specs.Cutting.{restFrames, framesOf, cutFrames}
 use Rattle.tx_transport.specs.Transport.{receivedOk, rejectedWith}
-use Rattle.reply_head.specs.Head.{replyHead}
 use Rattle.exec_store.specs.Storing.{masked, storeMasked}
 use Rattle.exec_spec.specs.Access.{readResult, writeResult, memoryAfter}
 use Rattle.exec_spec.specs.Handling.{perform, handle}
-use Rattle.node_spec.specs.DatagramCall.{datagramCheck}
+use Rattle.node_spec.specs.CallerErrors.{earlierCheck, frameCheck}
 use Rattle.node_spec.specs.FrameCall.{frameCall}
 use Rattle.node_send.specs.Sending.{framesToSend}
 use Rattle.hex_digit.specs.Digit.{digitValue, digitOf}
@@ -34,5 +33,5 @@ use Rattle.gridconnect_session_spec.specs.Session.{answerLines}
 use Rattle.demo_board.specs.PaperSession.{PaperSession}
 
 pub paper-session : PaperSession
-unfolding putAt placed kindOfFrame addressed roleOf frameOf findSpace among spacesCheck descriptionCheck pairsOf commands.kindOfCommand restOf decodeRead decodeWrite decodeMasked decodeKind decode isDue dropDue handleFrame placesIn isFor keptIn joinSound receive restFrames framesOf cutFrames receivedOk rejectedWith replyHead readResult writeResult memoryAfter masked storeMasked perform handle datagramCheck frameCall framesToSend digitValue digitOf allDigits digitsOf bytesIn hexDigits numberIn lineOf formed parseOf frameText framesText completed unfinished endLine answerLine answerLines
+unfolding putAt placed kindOfFrame addressed roleOf frameOf findSpace among spacesCheck descriptionCheck pairsOf commands.kindOfCommand restOf decodeRead decodeWrite decodeMasked decodeKind decode isDue dropDue handleFrame placesIn isFor keptIn joinSound receive restFrames framesOf cutFrames receivedOk rejectedWith headBytes readResult writeResult memoryAfter masked storeMasked perform handle earlierCheck frameCheck frameCall framesToSend digitValue digitOf allDigits digitsOf bytesIn hexDigits numberIn lineOf formed parseOf frameText framesText completed unfinished endLine answerLine answerLines
 paper-session = refl

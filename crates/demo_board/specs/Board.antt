@@ -5,6 +5,7 @@ use mathlib.Core.List.{List, [], _∷_, _++_}
 use lib.ListN.{replicate}
 use Rattle.buffer.specs.LittleEndian.{leastFirst}
 use Rattle.space_table.specs.declared.Space.{Space}
+use Rattle.exec_registers.specs.Registers.{registersAtStart}
 use Rattle.exec_spec.specs.Handling.{Fixed, fixed, Contents, contents}
 
 abbrev pub space : ℕ → ℕ → ℕ → Bool → Bool → ℕ → Space
@@ -41,12 +42,9 @@ demoMemory = replicate 48 0
 abbrev pub demoFlash : List ℕ
 demoFlash = 0x3C ∷ 0x63 ∷ 0x64 ∷ 0x69 ∷ 0x2F ∷ 0x3E ∷ replicate 10 0
 
--- "The lock memory is six bytes, zero at start."
-abbrev pub demoLock : List ℕ
-demoLock = replicate 6 0
-
 abbrev pub demoFixed : Fixed
 demoFixed = fixed demoAlias demoWriteLengths demoSpaces demoFlash
 
+-- "The lock memory is six bytes, zero at start."
 abbrev pub demoContents : Contents
-demoContents = contents demoMemory demoLock
+demoContents = contents demoMemory registersAtStart

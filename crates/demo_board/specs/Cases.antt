@@ -36,7 +36,7 @@ cases =
     ∷ []
 
 -- The demonstration board has no error; and each of the cases, on a fresh one, is answered so and leaves
--- memory and lock as they were.
+-- memory and the registers as they were.
 pub record ProvedCases : Type 0 where
   pub good : descriptionCheck demoAlias demoSpaces (length demoFlash) (length demoMemory) ≡ Passed
   pub answered : map (λ c. handle demoFixed demoContents (c .sent)) cases ≡ map (λ c. outcome (c .result) demoContents) cases

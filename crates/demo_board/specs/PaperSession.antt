@@ -2,8 +2,8 @@
 use mathlib.Core.Path.{_≡_}
 use Prim.Native.String.{String}
 use lib.ListN.{replicate}
-use Rattle.rx_spec.specs.Reception.{State}
-use Rattle.rx_spec.specs.PlaceBytes.{stateIn}
+use Rattle.rx_place_spec.specs.State.{State}
+use Rattle.rx_place_spec.specs.PlaceBytes.{stateIn}
 use Rattle.gridconnect_session_spec.specs.Session.{session}
 use Rattle.demo_board.specs.Board.{demoFixed, demoContents}
 use Rattle.demo_board.specs.Text.{bytesOfText}

@@ -7,6 +7,7 @@
 mod boards;
 mod output;
 
+use exec_registers::Registers;
 use libc::STDIN_FILENO;
 use node_spec::Handled;
 use reply_answer::Answer;
@@ -101,9 +102,9 @@ fn print_handled(handled: Handled, reply: &[u8]) {
 }
 
 // The end of a line.
-fn print_lock(lock: &[u8; 6]) {
+fn print_lock(registers: &Registers) {
     output::print(b", lock ");
-    output::print_bytes(lock);
+    output::print_bytes(&exec_registers::lock_in(registers));
     output::print(b"\n");
 }
 
@@ -112,7 +113,7 @@ fn handle(
     datagram: &[u8],
     count: u8,
     memory: &mut [u8],
-    lock: &mut [u8; 6],
+    registers: &mut Registers,
     reply: &mut [u8],
 ) -> Handled {
     let table = demo_board::table_bytes();
@@ -123,7 +124,7 @@ fn handle(
         buffer::part(&table, 0, count as usize * 16),
         &flash,
         memory,
-        lock,
+        registers,
         datagram,
         reply,
     )
@@ -132,14 +133,15 @@ fn handle(
 // The line for a datagram on such a board whose lock memory is `held` before.
 fn run_on(datagram: &[u8], count: u8, held: [u8; 6]) {
     let mut memory = demo_board::memory_bytes();
-    let mut lock = held;
+    let mut registers = exec_registers::new_registers();
+    exec_registers::put_lock(&mut registers, held);
     let mut reply = [FILL; 80];
-    let handled = handle(datagram, count, &mut memory, &mut lock, &mut reply);
+    let handled = handle(datagram, count, &mut memory, &mut registers, &mut reply);
     output::print_bytes(datagram);
     output::print(b": ");
     print_handled(handled, &reply);
     print_changes(&memory);
-    print_lock(&lock);
+    print_lock(&registers);
 }
 
 // A line of the input that is being read, and the board that its datagram is for.

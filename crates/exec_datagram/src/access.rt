@@ -12,6 +12,7 @@ ghost use Rattle.space_lookup.specs.Description.{findSpace};
 ghost use Rattle.space_table.specs.Table.{spacesIn};
 ghost use Rattle.cmd_fields.specs.Commands.{pairsOf};
 ghost use Rattle.reply_answer.specs.Answers.{Agrees};
+ghost use Rattle.reply_datagram.specs.Replies.{inBytes};
 ghost use Rattle.space_reach.specs.Reach.{access, indexOf, WritesFit};
 ghost use Rattle.exec_store.specs.Storing.{storeBytes, storeMasked};
 ghost use Rattle.exec_spec.specs.Access.{bytesRead, readResult, WriteEnds};
@@ -55,8 +56,8 @@ pub fn read<'a>(
     out: &mut [u8],
 ) -> Answer
     ensures { λ r.
-        ⌜ Agrees (readResult (before flash) (before memory) form number address count
-        (access false (findSpace (spacesIn (before spaces)) number) address 1)) r (before out) (after out) ⌝ }
+        ⌜ Agrees (inBytes (readResult (before flash) (before memory) form number address count
+        (access false (findSpace (spacesIn (before spaces)) number) address 1))) r (before out) (after out) ⌝ }
 {
     match space_reach::reach(spaces, false, number, address, 1) {
         Access::Fails(code) => reply_datagram::failed_read(out, form, number, address, code),

@@ -1,10 +1,11 @@
 // A datagram handled whole: decoded, and what it asks for performed.
 use cmd_decode::Decoded;
+use exec_registers::Registers;
 use reply_answer::Answer;
 ghost use Rattle.buffer.specs.Lent.{before, after};
-ghost use Rattle.exec_spec.specs.Performing.{AllAnnounced};
+ghost use Rattle.exec_spec.specs.Performing.{AllAnnounced, AllLeave};
 ghost use Rattle.exec_spec.specs.Handling.{handle, Performs, HandleBounds};
-ghost use Rattle.exec_spec.specs.LentBoard.{boardOf, contentsBefore};
+ghost use Rattle.exec_spec.specs.LentBoard.{boardOf, contentsBefore, contentsAfter};
 
 mod access;
 mod perform;
@@ -17,15 +18,16 @@ pub fn handle(
     spaces: &[u8],
     flash: &[u8],
     memory: &mut [u8],
-    lock: &mut [u8; 6],
+    registers: &mut Registers,
     datagram: &[u8],
     out: &mut [u8],
 ) -> Answer
     ensures performs { λ r.
-        ⌜ Performs (handle (boardOf alias «write_lengths» spaces flash) (contentsBefore memory lock) (before datagram))
-        r (before out) (after out) (after memory) (after lock) ⌝ }
+        ⌜ Performs (handle (boardOf alias «write_lengths» spaces flash) (contentsBefore memory registers)
+        (before datagram)) r (before out) (after out) (contentsAfter memory registers) ⌝ }
     ensures bounds { λ _. ⌜ HandleBounds ⌝ }
     ensures announced { λ _. ⌜ AllAnnounced ⌝ }
+    ensures leaves { λ _. ⌜ AllLeave ⌝ }
 {
     let decoded = cmd_decode::decode(datagram);
     match decoded {
@@ -39,7 +41,7 @@ pub fn handle(
                 spaces,
                 flash,
                 memory,
-                lock,
+                registers,
                 form,
                 command,
                 datagram,

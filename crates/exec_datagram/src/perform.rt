@@ -1,26 +1,31 @@
 // A request performed: each command by the crate that knows it.
 use cmd_decode::Command;
 use cmd_fields::Form;
+use exec_registers::Registers;
 use reply_answer::Answer;
 ghost use mathlib.Core.Path.{_≡_};
 ghost use lib.ListN.{length};
 ghost use Rattle.buffer.specs.Lent.{before, after};
 ghost use Rattle.cmd_fields.specs.Commands.{restOf};
-ghost use Rattle.reply_datagram.specs.Replies.{lockReply};
-ghost use Rattle.reply_answer.specs.Answers.{receivedOkReply, Agrees};
+ghost use Rattle.reply_datagram.specs.Replies.{lockReply, Sends};
 ghost use Rattle.cmd_decode.specs.Decoding.{requestOf};
-ghost use Rattle.exec_spec.specs.Performing.{Performed};
-ghost use Rattle.exec_lock.specs.Lock.{testAndSet};
-ghost use Rattle.exec_spec.specs.LentBoard.{boardOf, contentsBefore};
+ghost use Rattle.exec_spec.specs.Performing.{lockTested, Performed};
+ghost use Rattle.exec_registers.specs.Registers.{registersIn};
+ghost use Rattle.exec_spec.specs.LentBoard.{boardOf, contentsBefore, contentsAfter};
 
 // 0x88: the test-and-set with the ID that a datagram has, and the lock memory afterwards as the reply.
-fn reserve(lock: &mut [u8; 6], datagram: &[u8], out: &mut [u8]) -> Answer
-    ensures held { λ _. ⌜ after lock ≡ testAndSet (before lock) (restOf (before datagram)) ⌝ }
-    ensures reply { λ r. ⌜ Agrees (receivedOkReply (lockReply (after lock))) r (before out) (after out) ⌝ }
-    ensures six { λ _. ⌜ length (after lock) ≡ 6 ⌝ }
+fn reserve(registers: &mut Registers, datagram: &[u8], out: &mut [u8]) -> Answer
+    ensures left { λ _.
+        ⌜ registersIn (after registers) ≡ lockTested (registersIn (before registers)) (restOf (before datagram)) ⌝ }
+    ensures reply { λ r. ⌜ Sends (lockReply (registersIn (after registers) .lock)) r (before out) (after out) ⌝ }
+    ensures six { λ _. ⌜ length (registersIn (after registers) .lock) ≡ 6 ⌝ }
 {
-    exec_lock::test_and_set(lock, cmd_view::rest(datagram));
-    reply_datagram::lock(out, *lock)
+    let held = exec_lock::test_and_set(
+        exec_registers::lock_in(registers),
+        cmd_view::rest(datagram),
+    );
+    exec_registers::put_lock(registers, held);
+    reply_datagram::lock(out, held)
 }
 
 // What a request asks for. The bytes to write, the pairs and the lock's ID are the datagram's remaining bytes.
@@ -30,15 +35,15 @@ pub fn perform(
     spaces: &[u8],
     flash: &[u8],
     memory: &mut [u8],
-    lock: &mut [u8; 6],
+    registers: &mut Registers,
     form: Form,
     command: Command,
     datagram: &[u8],
     out: &mut [u8],
 ) -> Answer
     ensures { λ r.
-        ⌜ Performed (boardOf alias «write_lengths» spaces flash) (contentsBefore memory lock) form
-        (requestOf command (restOf (before datagram))) r (before out) (after out) (after memory) (after lock) ⌝ }
+        ⌜ Performed (boardOf alias «write_lengths» spaces flash) (contentsBefore memory registers) form
+        (requestOf command (restOf (before datagram))) r (before out) (after out) (contentsAfter memory registers) ⌝ }
 {
     match command {
         Command::Read {
@@ -72,7 +77,7 @@ pub fn perform(
             return reply_datagram::information(out, space, space_lookup::find_space(spaces, space));
         }
         Command::Lock => {
-            return reserve(lock, datagram, out);
+            return reserve(registers, datagram, out);
         }
         Command::UpdateComplete => {
             return Answer::UpdateComplete;

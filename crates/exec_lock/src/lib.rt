@@ -1,6 +1,7 @@
-// The lock memory: six lent bytes, zero where nobody holds it. The test-and-set is by value; `change` stores what it
-// gives in a lock that is lent.
+// The lock memory: six bytes, zero where nobody holds it. They come in and go out by value; `change` stores what a
+// test-and-set gives in a lock that is lent.
 ghost use mathlib.Core.Path.{_≡_};
+ghost use Rattle.buffer.specs.Lent.{before};
 ghost use Rattle.exec_lock.specs.Lock.{allZero, lockAfter, testAndSet};
 
 // The lock memory: the ID that holds the lock, zero where none does.
@@ -51,13 +52,13 @@ fn reserved(held: [u8; 6], id: [u8; 6]) -> [u8; 6]
     lock.bytes
 }
 
-// The test-and-set on the lent lock memory. An ID has six bytes; one of any other length changes nothing.
-pub fn test_and_set(lock: &mut [u8; 6], id: &[u8])
-    ensures { λ _. ⌜ now (lock .exit) ≡ testAndSet (now (lock .entry)) (now (id .entry)) ⌝ }
+// The test-and-set: the lock memory after an ID was sent. An ID has six bytes; one of any other length changes nothing.
+pub fn test_and_set(held: [u8; 6], id: &[u8]) -> [u8; 6]
+    ensures { λ r. ⌜ r ≡ testAndSet held (before id) ⌝ }
 {
-    if id.len() != 6 {
-        return;
+    if id.len() == 6 {
+        let sent = [id[0], id[1], id[2], id[3], id[4], id[5]];
+        return reserved(held, sent);
     }
-    let sent = [id[0], id[1], id[2], id[3], id[4], id[5]];
-    *lock = reserved(*lock, sent);
+    held
 }

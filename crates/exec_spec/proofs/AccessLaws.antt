@@ -5,8 +5,8 @@ use mathlib.Core.Path.{_≡_, refl, ap, _∙_}
 use mathlib.Core.List.{List}
 use Rattle.space_table.specs.declared.Space.{Space}
 use Rattle.cmd_fields.specs.declared.Form.{Form}
-use Rattle.reply_datagram.specs.Replies.{readReply, failedRead, failedWrite}
-use Rattle.reply_answer.specs.Answers.{receivedOkReply, answerOf, Agrees}
+use Rattle.reply_datagram.specs.Replies.{readReply, failedRead, failedWrite, inBytes, Sends}
+use Rattle.reply_answer.specs.Answers.{answerOf, Agrees}
 use Rattle.reply_answer.specs.declared.Answer.{Answer}
 use Rattle.reply_answer.specs.declared.Answer.the-variants.{Written}
 use Rattle.space_reach.specs.Reach.{indexOf}
@@ -18,19 +18,19 @@ use Rattle.exec_spec.specs.Access.{bytesRead, readResult, writeResult, m
 -- ---- the answers, by what is reached
 
 module _ (flash memory : List ℕ) (form : Form) (space address count : ℕ) {r : Answer} {before after : List ℕ} where
-  pub read-fails : {a : Access} {code : ℕ} → a ≡ Fails code → Agrees (receivedOkReply (failedRead form space address code)) r before after →
-      Agrees (readResult flash memory form space address count a) r before after
+  pub read-fails : {a : Access} {code : ℕ} → a ≡ Fails code → Sends (failedRead form space address code) r before after →
+      Agrees (inBytes (readResult flash memory form space address count a)) r before after
   unfolding readResult
   read-fails e p = rw e p
 
   pub read-reaches : {a : Access} {s : Space} → a ≡ Reaches s → {part : List ℕ} → part ≡ bytesRead flash memory s address count →
-      Agrees (receivedOkReply (readReply form space address part)) r before after → Agrees (readResult flash memory form space address count a) r before after
+      Sends (readReply form space address part) r before after → Agrees (inBytes (readResult flash memory form space address count a)) r before after
   unfolding readResult
   read-reaches e q p = rw (e, ← q) p
 
 module _ (store : ℕ → List ℕ → List ℕ) (form : Form) (space address n : ℕ) (memory : List ℕ) where
   pub write-fails : {a : Access} {code : ℕ} → a ≡ Fails code → {r : Answer} {before after : List ℕ} →
-      Agrees (receivedOkReply (failedWrite form space address code)) r before after → WriteEnds store form space address n a r before after memory memory
+      Sends (failedWrite form space address code) r before after → WriteEnds store form space address n a r before after memory memory
   unfolding writeResult memoryAfter
   write-fails e p = record { answer = rw e p; memory = rw e; changes = rw (p .answer) refl }
 
@@ -46,7 +46,7 @@ module _ (store : ℕ → List ℕ → List ℕ) (form : Form) (space address n 
         }
 
     -- the same of the definitions alone
-    pub write-changes : (a : Access) → Changes (answerOf (writeResult form space address n a)) memory (memoryAfter store memory address a)
+    pub write-changes : (a : Access) → Changes (answerOf (inBytes (writeResult form space address n a))) memory (memoryAfter store memory address a)
     unfolding writeResult memoryAfter
     write-changes (Fails code) = refl
     write-changes (Reaches s) = within (indexOf s address)

@@ -1,2 +1,3 @@
 pub mod AccessLaws
+pub mod ContentsLaws
 pub mod HandlingLaws

@@ -1,4 +1,5 @@
--- Document 01, "Commands" and "Refused because of the state": reads, writes and masked writes of a space.
+-- Document 01, "Commands" and "Refused because of the state": reads, writes and masked writes of a space. Replies are
+-- given by their fields.
 use Prim.Native.Nat.{ℕ, _-_}
 use mathlib.Core.Path.{_≡_}
 use mathlib.Core.List.{List}
@@ -6,8 +7,9 @@ use lib.ListN.{take, drop}
 use Rattle.space_lookup.specs.Description.{windowOf}
 use Rattle.space_table.specs.declared.Space.{Space}
 use Rattle.cmd_fields.specs.declared.Form.{Form}
-use Rattle.reply_datagram.specs.Replies.{readReply, failedRead, failedWrite}
-use Rattle.reply_answer.specs.Answers.{Result, written, receivedOkReply, Agrees}
+use Rattle.reply_spec.specs.ReplyForms.{Reply}
+use Rattle.reply_datagram.specs.Replies.{readReply, failedRead, failedWrite, inBytes}
+use Rattle.reply_answer.specs.Answers.{Answered, written, receivedOkReply, Agrees}
 use Rattle.reply_answer.specs.declared.Answer.{Answer}
 use Rattle.reply_answer.specs.declared.Answer.the-variants.{Rejected, Written, UpdateComplete, Replied}
 use Rattle.space_reach.specs.Reach.{indexOf}
@@ -21,14 +23,14 @@ use Rattle.exec_store.specs.Storing.{OnlyWithin}
 abbrev pub bytesRead : List ℕ → List ℕ → Space → ℕ → ℕ → List ℕ
 bytesRead flash memory s address count = take count (drop (address - s .lowest) (windowOf flash memory s))
 
-unfoldable pub readResult : List ℕ → List ℕ → Form → ℕ → ℕ → ℕ → Access → Result
+unfoldable pub readResult : List ℕ → List ℕ → Form → ℕ → ℕ → ℕ → Access → Answered Reply
 readResult flash memory form space address count (Fails code) = receivedOkReply (failedRead form space address code)
 readResult flash memory form space address count (Reaches s) = receivedOkReply (readReply form space address (bytesRead flash memory s address count))
 
 -- ---- writes
 
 -- A write of n bytes: "Success is Received OK 0x00 and nothing more"
-unfoldable pub writeResult : Form → ℕ → ℕ → ℕ → Access → Result
+unfoldable pub writeResult : Form → ℕ → ℕ → ℕ → Access → Answered Reply
 writeResult form space address n (Fails code) = receivedOkReply (failedWrite form space address code)
 writeResult form space address n (Reaches s) = written (indexOf s address) n
 
@@ -52,6 +54,6 @@ Changes (Replied n) old new = new ≡ old
 -- The answer r, the buffer `after` and the memory `stored` are those of a write of n bytes that reached or failed, over
 -- the buffer `before` and the memory `old`.
 pub record WriteEnds (store : ℕ → List ℕ → List ℕ) (form : Form) (space address n : ℕ) (reached : Access) (r : Answer) (before after old stored : List ℕ) : Type 0 where
-  pub answer : Agrees (writeResult form space address n reached) r before after
+  pub answer : Agrees (inBytes (writeResult form space address n reached)) r before after
   pub memory : stored ≡ memoryAfter store old address reached
   pub changes : Changes r old stored

@@ -10,13 +10,14 @@ use Rattle.cmd_decode.specs.Decoding.{Reading, rejected, request, decode}
 use Rattle.reply_answer.specs.Answers.{Result, datagramRejected, written, updateCompleted, receivedOkReply, answerOf, Agrees}
 use Rattle.reply_answer.specs.declared.Answer.{Answer}
 use Rattle.exec_spec.specs.Access.{Changes}
+use Rattle.exec_spec.specs.Performing.{sent}
 pub use Rattle.exec_spec.specs.Performing.{Fixed, fixed, Contents, contents, Outcome, outcome}
 unfoldable pub use Rattle.exec_spec.specs.Performing.{perform}
 
--- A datagram handled whole. A rejected one leaves everything as it was.
+-- A datagram handled whole, with the bytes of the reply. A rejected one leaves everything as it was.
 abbrev pub answerReading : Fixed → Contents → Reading → Outcome
 answerReading x c (rejected code) = outcome (datagramRejected code) c
-answerReading x c (request form q) = perform x c form q
+answerReading x c (request form q) = sent (perform x c form q)
 
 unfoldable pub handle : Fixed → Contents → List ℕ → Outcome
 handle x c d = answerReading x c (decode d)
@@ -49,9 +50,8 @@ Short (written index n) = n ≤ 64
 Short updateCompleted = Unit {0}
 Short (receivedOkReply reply) = length reply ≤ 72
 
--- The answer r, the buffer `after`, memory and lock are what the outcome says, over the buffer `before`.
-pub record Performs (o : Outcome) (r : Answer) (before after stored held : List ℕ) : Type 0 where
+-- The answer r, the buffer `after` and the contents `left` are what the outcome says, over the buffer `before`.
+pub record Performs (o : Outcome) (r : Answer) (before after : List ℕ) (left : Contents) : Type 0 where
   pub answer : Agrees (o .result) r before after
-  pub memory : stored ≡ o .contents .memory
-  pub lock : held ≡ o .contents .lock
+  pub contents : left ≡ o .contents
   pub short : Short (o .result)

@@ -1,2 +1,2 @@
 // What a request does, and a datagram handled whole. These are definitions, in specs/, and their theorems; the code
-// that meets them is in `exec_datagram`, `exec_datagram` and `exec_datagram`.
+// that meets them is in `exec_datagram`.

@@ -8,19 +8,18 @@ use native.Mathlib.Numerals.{add-one}
 use native.Mathlib.Nat.{add-zero, add-assoc}
 use native.Mathlib.Omega.{arith}
 use lib.Dec.{leb}
-use lib.ListN.{length, take, drop, getD, length-append, length-take, List·getD-append}
-use lib.Seq.{getD-append-add}
+use lib.ListN.{length, take, drop, length-append, length-take}
 use borrow.Author.Tests.{le-leb, lt-leb, leb-true, leb-false}
 use Rattle.buffer.specs.Buffer.{over, putAt, placed}
 use Rattle.buffer.specs.LittleEndian.{leastFirst}
 use Rattle.buffer.proofs.Choice.{by-test}
 use Rattle.buffer.proofs.Laws.{placed-fits, put-length, put-behind, put-nil}
 use Rattle.can_frame.specs.declared.Frame.{Frame}
-use Rattle.can_frame_bytes.specs.Layout.{frameBytes, framesBytes}
-use Rattle.can_frame_bytes.proofs.LayoutLaws.{eight-are}
+use Rattle.can_frame_bytes.specs.Layout.{frameBytes, framesBytes, frameInBytes}
+use Rattle.can_frame_bytes.proofs.LayoutLaws.{frame-back}
 use Rattle.gridconnect_print.specs.Line.{frameText, endOf, Printed, lineOf}
 use Rattle.gridconnect_print.proofs.LineLaws.{no-line, line-text, line-length}
-use Rattle.gridconnect_frames.specs.Printing.{frameInBytes, framesFrom, framesText, whenRoom}
+use Rattle.gridconnect_frames.specs.Printing.{framesFrom, framesText, whenRoom}
 
 -- ---- how long the lines are
 
@@ -117,38 +116,9 @@ module _ (at : ℕ) (text out : List ℕ) where
 
 -- ---- frames read as they were put
 
--- the number of four bytes, least significant first
-number-back : (x : ℕ) → x / 16777216 * 16777216 + x / 65536 % 256 * 65536 + x / 256 % 256 * 256 + x % 256 ≡ x
-number-back x = omega arith
-
-module _ (front : List ℕ) (f : Frame) (rest : List ℕ) (full : length (f .bytes) ≡ 8) (n : ℕ) (e : length front ≡ n) where
-  abbrev all : List ℕ
-  all = front ++ (frameBytes f ++ rest)
-
-  at-first : getD all n 0 ≡ getD (frameBytes f ++ rest) 0 0
-  at-first = rw (← e) (ap (λ (k : ℕ). getD all k 0) (sym (add-zero (length front))) ∙ getD-append-add front (frameBytes f ++ rest) 0 0)
-
-  at-next : (k : ℕ) → getD all (n + k) 0 ≡ getD (frameBytes f ++ rest) k 0
-  at-next k = rw (← e) (getD-append-add front (frameBytes f ++ rest) k 0)
-
-  data-at : (k : ℕ) → k < 8 → getD (f .bytes ++ rest) k 0 ≡ getD (f .bytes) k 0
-  data-at k h = List·getD-append (f .bytes) rest 0 k (omega arith)
-
-  same-frame : {h l : ℕ} {b : List ℕ} → h ≡ f .header → l ≡ f .len → b ≡ f .bytes → _≡_ {A = Frame} (record { header = h; len = l; bytes = b }) f
-  same-frame p q r = rw (p, q, r)
-
-  frame-back : frameInBytes all n ≡ f
-  unfolding frameInBytes frameBytes
-  frame-back =
-      same-frame
-      (rw (at-first, at-next 1, at-next 2, at-next 3) (number-back (f .header)))
-      (rw (at-next 4, at-next 5, at-next 6, at-next 7) (number-back (f .len)))
-      (rw (at-next 8, at-next 9, at-next 10, at-next 11, at-next 12, at-next 13, at-next 14, at-next 15)
-      (rw (data-at 0 (omega arith), data-at 1 (omega arith), data-at 2 (omega arith), data-at 3 (omega arith), data-at 4 (omega arith), data-at 5 (omega arith), data-at 6 (omega arith), data-at 7 (omega arith)) (eight-are (f .bytes) full)))
-
-  frame-size : length (frameBytes f) ≡ 16
-  unfolding frameBytes
-  frame-size = rw (length-append (leastFirst (f .header) ++ leastFirst (f .len)) (f .bytes)) (omega arith)
+frame-size : (f : Frame) → length (f .bytes) ≡ 8 → length (frameBytes f) ≡ 16
+unfolding frameBytes
+frame-size f full = rw (length-append (leastFirst (f .header) ++ leastFirst (f .len)) (f .bytes)) (omega arith)
 
 -- each of the frames has its eight bytes
 abbrev pub Full : List Frame → Type 0
@@ -159,7 +129,7 @@ frames-from : (front rest : List ℕ) (fs : List Frame) → Full fs → (n : ℕ
 unfolding framesFrom
 frames-from front rest [] full n e = refl
 frames-from front rest (f ∷ fs) full n e =
-    let s = frame-size front f rest (full .0) n e in
+    let s = frame-size f (full .0) in
     let l : length (front ++ frameBytes f) ≡ n + 16 = length-append front (frameBytes f) ∙ omega arith in
     let a : front ++ (frameBytes f ++ framesBytes fs ++ rest) ≡ front ++ (frameBytes f ++ (framesBytes fs ++ rest)) = rw append-assoc in
     let b : front ++ (frameBytes f ++ framesBytes fs ++ rest) ≡ front ++ frameBytes f ++ (framesBytes fs ++ rest) = simp append-assoc in

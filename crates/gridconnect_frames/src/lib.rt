@@ -6,8 +6,9 @@ ghost use lib.ListN.{length, getD};
 ghost use Rattle.buffer.specs.Lent.{before, after};
 ghost use Rattle.buffer.specs.Buffer.{putAt};
 ghost use Rattle.buffer.specs.BigEndian.{numberOf};
+ghost use Rattle.can_frame_bytes.specs.Layout.{frameInBytes};
 ghost use Rattle.gridconnect_print.specs.Line.{Printed};
-ghost use Rattle.gridconnect_frames.specs.Printing.{frameInBytes, framesFrom, framesText, whenRoom};
+ghost use Rattle.gridconnect_frames.specs.Printing.{framesFrom, framesText, whenRoom};
 ghost use Rattle.gridconnect_frames.specs.Room.{hasRoom};
 
 // The number in four bytes from an index on, least significant first.

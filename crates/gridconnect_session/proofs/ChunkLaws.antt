@@ -12,7 +12,7 @@ use lib.Seq.{drop-drop}
 use borrow.Author.Tests.{le-leb, lt-leb, eqb-true, eqb-false}
 use Rattle.buffer.proofs.Choice.{cond-elim, by-test}
 use Rattle.buffer.proofs.Laws.{put-nil, put-length, take-put, drop-behind}
-use Rattle.rx_spec.specs.Reception.{State}
+use Rattle.rx_place_spec.specs.State.{State}
 use Rattle.exec_spec.specs.Handling.{Fixed, Contents}
 use Rattle.gridconnect_parse.specs.Parsing.{parseOf}
 use Rattle.gridconnect_parse.specs.declared.Parsed.{Parsed}

@@ -4,7 +4,7 @@ use mathlib.Core.Path.{_≡_}
 use mathlib.Core.Bool.{cond}
 use mathlib.Core.List.{List, []}
 use lib.ListN.{length, take, drop}
-use Rattle.rx_spec.specs.Reception.{State}
+use Rattle.rx_place_spec.specs.State.{State}
 use Rattle.exec_spec.specs.Handling.{Fixed, Contents}
 use Rattle.gridconnect_parse.specs.declared.Parsed.{Parsed}
 use Rattle.gridconnect_frames.specs.Room.{hasRoom}

@@ -1,4 +1,5 @@
 // Text to text: the lines of an input that comes in chunks, answered by the board as far as the buffer has room.
+use exec_registers::Registers;
 use gridconnect_input::Carry;
 use gridconnect_input::Next;
 ghost use mathlib.Core.Path.{_≡_};
@@ -6,7 +7,7 @@ ghost use mathlib.Core.List.{[]};
 ghost use Prim.Native.Nat.{_+_, _≤_};
 ghost use lib.ListN.{length};
 ghost use Rattle.buffer.specs.Lent.{before, after};
-ghost use Rattle.rx_spec.specs.PlaceBytes.{stateBefore, stateAfter};
+ghost use Rattle.rx_place_spec.specs.PlaceBytes.{stateBefore, stateAfter};
 ghost use Rattle.gridconnect_input.specs.Input.{linesGiven};
 ghost use Rattle.gridconnect_session_spec.specs.Turn.{Prints};
 ghost use Rattle.gridconnect_session_spec.specs.Session.{answerLines, AnyChunks};
@@ -30,7 +31,7 @@ fn answer_next(
     spaces: &[u8],
     flash: &[u8],
     memory: &mut [u8],
-    lock: &mut [u8; 6],
+    registers: &mut Registers,
     pool: &mut [u8; 576],
     places: &mut [u8; 64],
     next: Next,
@@ -40,8 +41,8 @@ fn answer_next(
     requires { ⌜ at + 290 ≤ length (now out) ⌝ }
     ensures { λ r.
         ⌜ Prints (answerLines (boardOf alias «write_lengths» spaces flash) (stateBefore places pool)
-        (contentsBefore memory lock) (linesGiven next)) at (before out) r (after out) (contentsAfter memory lock)
-        (stateAfter places pool) ⌝ }
+        (contentsBefore memory registers) (linesGiven next)) at (before out) r (after out)
+        (contentsAfter memory registers) (stateAfter places pool) ⌝ }
 {
     if !next.complete {
         return at;
@@ -53,7 +54,7 @@ fn answer_next(
         spaces,
         flash,
         memory,
-        lock,
+        registers,
         pool,
         places,
         parsed,
@@ -70,7 +71,7 @@ pub fn answer_chunk(
     spaces: &[u8],
     flash: &[u8],
     memory: &mut [u8],
-    lock: &mut [u8; 6],
+    registers: &mut Registers,
     pool: &mut [u8; 576],
     places: &mut [u8; 64],
     chunk: &[u8],
@@ -80,8 +81,8 @@ pub fn answer_chunk(
 ) -> Progress
     ensures answers { λ r.
         ⌜ ChunkAnswered (boardOf alias «write_lengths» spaces flash) (stateBefore places pool)
-        (contentsBefore memory lock) begun (before chunk) from r (before out) (after out)
-        (contentsAfter memory lock) (stateAfter places pool) ⌝ }
+        (contentsBefore memory registers) begun (before chunk) from r (before out) (after out)
+        (contentsAfter memory registers) (stateAfter places pool) ⌝ }
     ensures cuts { λ _. ⌜ AnyChunks (boardOf alias «write_lengths» spaces flash) ⌝ }
 {
     let mut carry = begun;
@@ -98,7 +99,7 @@ pub fn answer_chunk(
             spaces,
             flash,
             memory,
-            lock,
+            registers,
             pool,
             places,
             next,
@@ -119,7 +120,7 @@ pub fn answer_end(
     spaces: &[u8],
     flash: &[u8],
     memory: &mut [u8],
-    lock: &mut [u8; 6],
+    registers: &mut Registers,
     pool: &mut [u8; 576],
     places: &mut [u8; 64],
     carry: Carry,
@@ -127,8 +128,8 @@ pub fn answer_end(
 ) -> usize
     ensures { λ r.
         ⌜ Prints (answerLines (boardOf alias «write_lengths» spaces flash) (stateBefore places pool)
-        (contentsBefore memory lock) (atEnd carry (before out))) 0 (before out) r (after out)
-        (contentsAfter memory lock) (stateAfter places pool) ⌝ }
+        (contentsBefore memory registers) (atEnd carry (before out))) 0 (before out) r (after out)
+        (contentsAfter memory registers) (stateAfter places pool) ⌝ }
 {
     if !gridconnect_frames::has_room(0, out.len()) {
         return 0;
@@ -140,7 +141,7 @@ pub fn answer_end(
         spaces,
         flash,
         memory,
-        lock,
+        registers,
         pool,
         places,
         last,

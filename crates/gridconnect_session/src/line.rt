@@ -1,7 +1,8 @@
 // A line answered: its frame is handled, and what the board sends is printed.
+use exec_registers::Registers;
 use gridconnect_parse::Parsed;
 ghost use Rattle.buffer.specs.Lent.{before, after};
-ghost use Rattle.rx_spec.specs.PlaceBytes.{stateBefore, stateAfter};
+ghost use Rattle.rx_place_spec.specs.PlaceBytes.{stateBefore, stateAfter};
 ghost use Rattle.gridconnect_session_spec.specs.Turn.{answerWithRoom, Prints};
 ghost use Rattle.exec_spec.specs.LentBoard.{boardOf, contentsBefore, contentsAfter};
 
@@ -16,7 +17,7 @@ pub fn answer_line(
     spaces: &[u8],
     flash: &[u8],
     memory: &mut [u8],
-    lock: &mut [u8; 6],
+    registers: &mut Registers,
     pool: &mut [u8; 576],
     places: &mut [u8; 64],
     parsed: Parsed,
@@ -25,8 +26,8 @@ pub fn answer_line(
 ) -> usize
     ensures { λ r.
         ⌜ Prints (answerWithRoom (boardOf alias «write_lengths» spaces flash) (stateBefore places pool)
-        (contentsBefore memory lock) parsed at (before out)) at (before out) r (after out) (contentsAfter memory lock)
-        (stateAfter places pool) ⌝ }
+        (contentsBefore memory registers) parsed at (before out)) at (before out) r (after out)
+        (contentsAfter memory registers) (stateAfter places pool) ⌝ }
 {
     if !gridconnect_frames::has_room(at, out.len()) {
         return at;
@@ -44,7 +45,7 @@ pub fn answer_line(
         spaces,
         flash,
         memory,
-        lock,
+        registers,
         pool,
         places,
         TICK,

@@ -3,7 +3,7 @@
 use Prim.Native.Nat.{ℕ}
 use mathlib.Core.Path.{_≡_, refl, sym, ap, _∙_}
 use mathlib.Core.List.{List, [], _∷_, _++_, append-nil, append-assoc}
-use Rattle.rx_spec.specs.Reception.{State}
+use Rattle.rx_place_spec.specs.State.{State}
 use Rattle.exec_spec.specs.Handling.{Fixed, Contents}
 use Rattle.gridconnect_parse.specs.declared.Parsed.{Parsed}
 use Rattle.gridconnect_input.specs.Input.{readFrom, carryAfter, carryOf, readChunks, carryAfterChunks, lastOf, linesGiven}

@@ -11,12 +11,12 @@ use borrow.Author.Tests.{le-leb, lt-leb}
 use Rattle.buffer.proofs.Laws.{put-nil}
 use Rattle.can_frame.specs.declared.Frame.{Frame}
 use Rattle.can_frame.specs.Frame.{canFrame, sourceOf}
-use Rattle.rx_spec.specs.Reception.{State}
+use Rattle.rx_place_spec.specs.State.{State}
 use Rattle.rx_spec.specs.Order.{FrameResult}
-use Rattle.rx_spec.specs.PlaceBytes.{stateIn}
+use Rattle.rx_place_spec.specs.PlaceBytes.{stateIn}
 use Rattle.call_error.specs.declared.CallError.{CallError}
 use Rattle.reply_answer.specs.Answers.{Result}
-use Rattle.exec_spec.specs.Handling.{Fixed, Contents, contents}
+use Rattle.exec_spec.specs.Handling.{Fixed, Contents}
 use Rattle.node_spec.specs.FrameCall.{frameCall, Answers, Keeps}
 use Rattle.node_spec.specs.declared.FrameAnswer.{FrameAnswer}
 use Rattle.node_send.specs.Sending.{sentFor, Made}
@@ -49,13 +49,13 @@ module _ (x : Fixed) (st : State) (c : Contents) (p : Parsed) (at : ℕ) (out : 
     unfolding answerLine
     line-is g = rw (g, e)
 
-    pub line-handled : p .good ≡ true → {answer : FrameAnswer} {reply stored held places places' pool before made : List ℕ} {count r : ℕ} {after : List ℕ}
-        → Answers call answer (replicate 72 0) reply stored held
+    pub line-handled : p .good ≡ true → {answer : FrameAnswer} {reply places places' pool before made : List ℕ} {left : Contents} {count r : ℕ} {after : List ℕ}
+        → Answers call answer (replicate 72 0) reply left
         → Keeps call places places' pool
         → Made sent count before made
         → Printed at (whenRoom at out (framesText (framesFrom made 0 (min count 10)))) out r after
-        → Prints (answerWithRoom x st c p at out) at out r after (contents stored held) (stateIn places' pool)
-    line-handled g {answer} {reply} {stored} {held} {places} {places'} {pool} {before} a k m q =
+        → Prints (answerWithRoom x st c p at out) at out r after left (stateIn places' pool)
+    line-handled g {answer} {reply} {places} {places'} {pool} {before} a k m q =
         let full = sent-full (x .alias) (sourceOf (p .frame .header)) (call .answer) in
         let n = frames-printed sent before at out room (m .few) full (m .bytes) (m .count) q in
-        rw (le-leb (at + 290) (length out) room, ← line-is g) (record { end = n .0; few = n .2; out = n .1; contents = rw (a .memory, a .lock) refl; state = rw (k .places, k .pool) refl })
+        rw (le-leb (at + 290) (length out) room, ← line-is g) (record { end = n .0; few = n .2; out = n .1; contents = a .contents; state = rw (k .places, k .pool) refl })

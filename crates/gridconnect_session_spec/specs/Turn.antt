@@ -7,7 +7,7 @@ use mathlib.Core.List.{List, []}
 use lib.ListN.{length, replicate}
 use Rattle.buffer.specs.Buffer.{putAt}
 use Rattle.can_frame.specs.Frame.{sourceOf}
-use Rattle.rx_spec.specs.Reception.{State}
+use Rattle.rx_place_spec.specs.State.{State}
 use Rattle.tx_cut_spec.specs.Cutting.{carried}
 use Rattle.exec_spec.specs.Handling.{Fixed, Contents}
 use Rattle.node_spec.specs.FrameCall.{frameCall}
@@ -17,7 +17,7 @@ use Rattle.gridconnect_parse.specs.declared.Parsed.{Parsed}
 use Rattle.gridconnect_frames.specs.Room.{hasRoom}
 use Rattle.gridconnect_frames.specs.Printing.{framesText}
 
--- The text that is printed, and what is left of the reception state, memory and lock.
+-- The text that is printed, and what is left of the reception state, of memory and of the registers.
 pub record Turn : Type 0 where
   pub text : List ℕ
   pub state : State

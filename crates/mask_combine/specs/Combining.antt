@@ -8,7 +8,6 @@ use lib.ListN.{length, getD, replicate}
 use Rattle.buffer.specs.Buffer.{AllBytes}
 use Rattle.cmd_fields.specs.Commands.{Pair, pair}
 use Rattle.exec_store.specs.Storing.{maskByte, masked}
-use Rattle.mask_combine.specs.declared.MaskedByte.{MaskedByte}
 
 -- ---- one byte
 
@@ -83,7 +82,10 @@ pub record AddUp (m : ℕ) : Type 0 where
 abbrev pub PairsAddUp : Type 0
 PairsAddUp = (m : ℕ) → AddUp m
 
--- ---- what the code gives back
+-- ---- a mask and a data byte in two bytes that are lent
 
-abbrev pub pairIs : MaskedByte → Pair
-pairIs b = pair (b .mask) (b .value)
+abbrev pub pairIn : List ℕ → Pair
+pairIn bytes = pair (getD bytes 0 0) (getD bytes 1 0)
+
+abbrev pub maskAndData : Pair → List ℕ
+maskAndData p = p .mask ∷ p .value ∷ []

@@ -10,7 +10,7 @@ ghost use Rattle.tool_write_spec.specs.Writing.{pairBytes};
 ghost use Rattle.mask_diff_spec.specs.Differences.{difference, startFrom, countAt, nextChange};
 ghost use Rattle.mask_diff_spec.specs.Writes.{AllUpdates};
 ghost use Rattle.mask_diff.specs.Changes.{Finds};
-ghost use Rattle.mask_diff.specs.Numbers.{inNumbers, numbersOf, changeIs};
+ghost use Rattle.mask_diff.specs.Numbers.{changeBytes, numbersOf, changeIs};
 
 // The least room for pairs: that of the longest masked write.
 const PAIRS_ROOM: usize = 64;
@@ -28,17 +28,6 @@ pub enum NextChange {
     NoChange,
     // The index of its first byte, and the number of its pairs.
     ChangeAt { start: usize, count: usize },
-}
-
-// The next masked write as numbers for a caller in C: 1 for images that differ in length, 2 for a buffer that is too
-// short, or 0; whether there is a change; the index of its first byte and the number of its pairs. A number that the
-// case does not name is 0.
-#[repr(C)]
-pub struct ChangeFields {
-    pub refusal: u32,
-    pub given: bool,
-    pub start: usize,
-    pub count: usize,
 }
 
 // The index of the first byte that differs, at or after `from`; an index behind the images where there is none.
@@ -112,33 +101,56 @@ pub fn next_change(old: &[u8], new: &[u8], from: usize, pairs: &mut [u8]) -> Nex
     }
 }
 
-fn fields(refusal: u32, given: bool, start: usize, count: usize) -> ChangeFields
-    ensures { λ r. ⌜ r ≡ inNumbers refusal given start count ⌝ }
+// The numbers of an answer in the 24 bytes that a caller in C lends for them.
+fn put_numbers(refusal: u32, given: bool, start: usize, count: usize, change: &mut [u8; 24])
+    ensures { λ _. ⌜ after change ≡ changeBytes refusal given start count ⌝ }
 {
-    ChangeFields {
-        refusal: refusal,
-        given: given,
-        start: start,
-        count: count,
-    }
+    *change = [
+        (refusal % 256) as u8,
+        (refusal / 256 % 256) as u8,
+        (refusal / 65536 % 256) as u8,
+        (refusal / 16777216) as u8,
+        given as u8,
+        0,
+        0,
+        0,
+        (start % 256) as u8,
+        (start / 256 % 256) as u8,
+        (start / 65536 % 256) as u8,
+        (start / 16777216 % 256) as u8,
+        (start / 0x100000000 % 256) as u8,
+        (start / 0x10000000000 % 256) as u8,
+        (start / 0x1000000000000 % 256) as u8,
+        (start / 0x100000000000000) as u8,
+        (count % 256) as u8,
+        (count / 256 % 256) as u8,
+        (count / 65536 % 256) as u8,
+        (count / 16777216 % 256) as u8,
+        (count / 0x100000000 % 256) as u8,
+        (count / 0x10000000000 % 256) as u8,
+        (count / 0x1000000000000 % 256) as u8,
+        (count / 0x100000000000000) as u8,
+    ];
 }
 
-// The numbers of an answer.
-pub fn numbers_of(next: NextChange) -> ChangeFields
-    ensures { λ r. ⌜ (r ≡ numbersOf next) × (changeIs r ≡ next) ⌝ }
+// An answer as numbers for a caller in C: 1 for images that differ in length, 2 for a buffer that is too short, or 0;
+// whether there is a change; the index of its first byte and the number of its pairs. A number that the case does not
+// name is 0.
+pub fn put_change(next: NextChange, change: &mut [u8; 24])
+    ensures { λ _. ⌜ (after change ≡ numbersOf next) × (changeIs (after change) ≡ next) ⌝ }
 {
     match next {
         NextChange::LengthsDiffer => {
-            return fields(1, false, 0, 0);
+            put_numbers(1, false, 0, 0, change);
         }
         NextChange::BufferTooShort => {
-            return fields(2, false, 0, 0);
+            put_numbers(2, false, 0, 0, change);
         }
         NextChange::NoChange => {
-            return fields(0, false, 0, 0);
+            put_numbers(0, false, 0, 0, change);
         }
         NextChange::ChangeAt { start, count } => {
-            return fields(0, true, start, count);
+            put_numbers(0, true, start, count, change);
         }
     }
 }

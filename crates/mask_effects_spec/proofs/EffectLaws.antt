@@ -22,6 +22,8 @@ use Rattle.space_reach.proofs.Laws.{writes-fit}
 use Rattle.reply_answer.specs.Answers.{answerOf, transportOf, okFlags}
 use Rattle.exec_store.specs.Storing.{storeBytes, masked, storeMasked}
 use Rattle.exec_store.proofs.Laws.{masked-length}
+use Rattle.exec_registers.specs.Registers.{registersAtStart}
+use Rattle.reply_datagram.specs.Replies.{inBytes}
 use Rattle.exec_spec.specs.Access.{writeResult, memoryAfter}
 use Rattle.exec_spec.specs.Performing.{perform}
 use Rattle.exec_spec.specs.Handling.{Fixed, Contents, contents, answerReading, handle}
@@ -140,13 +142,13 @@ module _ (x : Fixed) (m : ℕ) (good : descriptionCheck (x .alias) (x .spaces) (
       ap (together (effectOf (x .spaces) m d)) (all-joined ds es (a .1) b)
       ∙ sym (add-up m .groups (effectOf (x .spaces) m d) (effectOfAll (x .spaces) m ds) (effectOfAll (x .spaces) m es) (one-effect d (a .0)) (all-effect ds (a .1)) (all-effect es b))
 
-  -- a lock for the contents of which only the memory is asked about
+  -- registers for the contents of which only the memory is asked about
   only : (ds : List (List ℕ)) → Each AllBytes ds → (e : List Pair) → Does x m ds e → e ≡ effectOfAll (x .spaces) m ds
   only ds b e h =
       add-up m .unique e (effectOfAll (x .spaces) m ds) (h .effect) (all-effect ds b)
       (λ memory size bytes.
-      let k : Content m (contents memory []) = record { size = size; bytes = bytes } in
-      sym (h .memory (contents memory []) k) ∙ all-do ds b (contents memory []) k)
+      let k : Content m (contents memory registersAtStart) = record { size = size; bytes = bytes } in
+      sym (h .memory (contents memory registersAtStart) k) ∙ all-do ds b (contents memory registersAtStart) k)
 
 pub adds-up : OnGoodBoards AddsUp
 adds-up x m good =
@@ -159,19 +161,19 @@ adds-up x m good =
 -- ---- accepted writes
 
 module _ (form : Form) (space address n : ℕ) where
-  write-ok : (a : Access) → isReached a ≡ true → transportOf (answerOf (writeResult form space address n a)) ≡ okFlags 0x00
+  write-ok : (a : Access) → isReached a ≡ true → transportOf (answerOf (inBytes (writeResult form space address n a))) ≡ okFlags 0x00
   unfolding writeResult
   write-ok (Fails code) t = clash (sym t)
   write-ok (Reaches s) t = refl
 
-  ok-write : (a : Access) → transportOf (answerOf (writeResult form space address n a)) ≡ okFlags 0x00 → isReached a ≡ true
+  ok-write : (a : Access) → transportOf (answerOf (inBytes (writeResult form space address n a))) ≡ okFlags 0x00 → isReached a ≡ true
   unfolding writeResult
   ok-write (Fails code) t = let z : _≡_ {A = ℕ} 0x80 0x00 = cc in absurd (omega arith)
   ok-write (Reaches s) t = refl
 
 -- by what the datagram asks for
 module _ (x : Fixed) (c : Contents) where
-  request-answered : (form : Form) (q : Request) → acceptedPairs (x .spaces) (requestWrites q) ≡ true → transportOf (answerOf (perform x c form q .result)) ≡ okFlags 0x00
+  request-answered : (form : Form) (q : Request) → acceptedPairs (x .spaces) (requestWrites q) ≡ true → transportOf (answerOf (inBytes (perform x c form q .result))) ≡ okFlags 0x00
   unfolding perform
   request-answered form (read space address count) t = clash (sym t)
   request-answered form (write space address bytes) t =
@@ -187,7 +189,7 @@ module _ (x : Fixed) (c : Contents) where
   reading-answered (rejected code) t = clash (sym t)
   reading-answered (request form q) t = request-answered form q t
 
-  request-only : (form : Form) (q : Request) → isPairs (requestWrites q) ≡ true → transportOf (answerOf (perform x c form q .result)) ≡ okFlags 0x00 →
+  request-only : (form : Form) (q : Request) → isPairs (requestWrites q) ≡ true → transportOf (answerOf (inBytes (perform x c form q .result))) ≡ okFlags 0x00 →
       acceptedPairs (x .spaces) (requestWrites q) ≡ true
   unfolding perform
   request-only form (read space address count) w t = w

@@ -15,6 +15,7 @@ use Rattle.cmd_fields.specs.declared.Form.{Form}
 use Rattle.cmd_decode.specs.Decoding.{Reading, rejected, request, decode}
 use Rattle.reply_answer.specs.Answers.{Result}
 use Rattle.exec_store.specs.Storing.{masked}
+use Rattle.reply_datagram.specs.Replies.{inBytes}
 use Rattle.exec_spec.specs.Performing.{perform}
 use Rattle.exec_spec.specs.Handling.{Fixed, Contents, contents, answerReading, handle}
 use Rattle.mask_combine.specs.Combining.{untouched, together, keepsAll, NoCommonBit}
@@ -23,7 +24,7 @@ use Rattle.mask_effects_spec.specs.Effects.{requestWrites, readingWrites
 use Rattle.mask_effects_spec.specs.AnyOrder.{Apart, TwoWrites, Interleaved, none, left, right, resultsOf, AllApart, Interleaves, WritesAddUp}
 use Rattle.mask_effects_spec.proofs.EffectLaws.{one-effect, all-effect, all-do, all-joined, adds-up, writes, accepted-writes}
 
--- ---- a write is answered by the description alone, and leaves the lock
+-- ---- a write is answered by the description alone, and leaves the registers
 
 module _ (x : Fixed) where
   request-same : (c k : Contents) (form : Form) (q : Request) → isPairs (requestWrites q) ≡ true → perform x c form q .result ≡ perform x k form q .result
@@ -38,34 +39,34 @@ module _ (x : Fixed) where
 
   reading-same : (c k : Contents) (r : Reading) → isPairs (readingWrites r) ≡ true → answerReading x c r .result ≡ answerReading x k r .result
   reading-same c k (rejected code) w = refl
-  reading-same c k (request form q) w = request-same c k form q w
+  reading-same c k (request form q) w = ap inBytes (request-same c k form q w)
 
   same-reply : (c k : Contents) (d : List ℕ) → isWrite d ≡ true → handle x c d .result ≡ handle x k d .result
   unfolding handle writtenBy
   same-reply c k d w = reading-same c k (decode d) w
 
-  request-lock : (c : Contents) (form : Form) (q : Request) → isPairs (requestWrites q) ≡ true → perform x c form q .contents .lock ≡ c .lock
+  request-registers : (c : Contents) (form : Form) (q : Request) → isPairs (requestWrites q) ≡ true → perform x c form q .contents .registers ≡ c .registers
   unfolding perform
-  request-lock c form (read space address count) w = refl
-  request-lock c form (write space address bytes) w = refl
-  request-lock c form (writeMasked space address pairs) w = refl
-  request-lock c form options w = refl
-  request-lock c form (information space) w = refl
-  request-lock c form (reserve id) w = clash (sym w)
-  request-lock c form updateComplete w = refl
+  request-registers c form (read space address count) w = refl
+  request-registers c form (write space address bytes) w = refl
+  request-registers c form (writeMasked space address pairs) w = refl
+  request-registers c form options w = refl
+  request-registers c form (information space) w = refl
+  request-registers c form (reserve id) w = clash (sym w)
+  request-registers c form updateComplete w = refl
 
-  reading-lock : (c : Contents) (r : Reading) → isPairs (readingWrites r) ≡ true → answerReading x c r .contents .lock ≡ c .lock
-  reading-lock c (rejected code) w = refl
-  reading-lock c (request form q) w = request-lock c form q w
+  reading-registers : (c : Contents) (r : Reading) → isPairs (readingWrites r) ≡ true → answerReading x c r .contents .registers ≡ c .registers
+  reading-registers c (rejected code) w = refl
+  reading-registers c (request form q) w = request-registers c form q w
 
-  same-lock : (c : Contents) (d : List ℕ) → isWrite d ≡ true → handle x c d .contents .lock ≡ c .lock
+  same-registers : (c : Contents) (d : List ℕ) → isWrite d ≡ true → handle x c d .contents .registers ≡ c .registers
   unfolding handle writtenBy
-  same-lock c d w = reading-lock c (decode d) w
+  same-registers c d w = reading-registers c (decode d) w
 
-  all-lock : (c : Contents) (ds : List (List ℕ)) → Each (λ (d : List ℕ). isWrite d ≡ true) ds → contentsAfterAll x c ds .lock ≡ c .lock
+  all-registers : (c : Contents) (ds : List (List ℕ)) → Each (λ (d : List ℕ). isWrite d ≡ true) ds → contentsAfterAll x c ds .registers ≡ c .registers
   unfolding contentsAfterAll
-  all-lock c [] w = refl
-  all-lock c (d ∷ ds) w = all-lock (handle x c d .contents) ds (w .1) ∙ same-lock c d (w .0)
+  all-registers c [] w = refl
+  all-registers c (d ∷ ds) w = all-registers (handle x c d .contents) ds (w .1) ∙ same-registers c d (w .0)
 
   -- so are many, whatever they are handled on
   all-same : (c k : Contents) (ds : List (List ℕ)) → Each (λ (d : List ℕ). isWrite d ≡ true) ds → resultsOf x c ds ≡ resultsOf x k ds
@@ -103,7 +104,7 @@ module _ (x : Fixed) (m : ℕ) (good : descriptionCheck (x .alias) (x .spaces) (
       let w = writes (x .spaces) d p in
       let v = writes (x .spaces) e q in
       record {
-        contents = ap₂ contents (two-memory c d e k a b apart) (all-lock x c (d ∷ e ∷ []) (w, (v, tt)) ∙ sym (all-lock x c (e ∷ d ∷ []) (v, (w, tt))));
+        contents = ap₂ contents (two-memory c d e k a b apart) (all-registers x c (d ∷ e ∷ []) (w, (v, tt)) ∙ sym (all-registers x c (e ∷ d ∷ []) (v, (w, tt))));
         replyToFirst = same-reply x (handle x c e .contents) c d w;
         replyToSecond = same-reply x (handle x c d .contents) c e v;
       }
@@ -169,5 +170,5 @@ writes-add-up =
       addsUp = adds-up;
       twoWrites = two-writes;
       interleaves = interleaves;
-      ownReplies = record { replies = λ x c ds es fs w v i. own-replies x c i w v; lock = all-lock };
+      ownReplies = record { replies = λ x c ds es fs w v i. own-replies x c i w v; registers = all-registers };
     }

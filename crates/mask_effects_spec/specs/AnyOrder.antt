@@ -19,7 +19,7 @@ use Rattle.mask_effects_spec.specs.Effects.{isAcceptedWrite, isWrite, ef
 abbrev pub Apart : List Space → ℕ → List ℕ → List ℕ → Type 0
 Apart spaces m d e = NoCommonBit (effectOf spaces m d) (effectOf spaces m e)
 
--- "either order leaves the same memory", and the same lock, "and gives each the same reply"
+-- "either order leaves the same memory", and the same registers, "and gives each the same reply"
 pub record EitherOrder (x : Fixed) (c : Contents) (d e : List ℕ) : Type 0 where
   pub contents : contentsAfterAll x c (d ∷ e ∷ []) ≡ contentsAfterAll x c (e ∷ d ∷ [])
   pub replyToFirst : handle x (handle x c e .contents) d .result ≡ handle x c d .result
@@ -54,11 +54,11 @@ Interleaves x m =
     contentsAfterAll x c fs .memory ≡ contentsAfterAll x c (ds ++ es) .memory
 
 -- Writes, accepted or refused, are answered by the description alone: each tool hears of its own what it would hear of
--- it by itself, whatever the other writes in between. And they leave the lock.
+-- it by itself, whatever the other writes in between. And they leave the registers.
 pub record OwnReplies : Type 0 where
   pub replies : (x : Fixed) (c : Contents) (ds es fs : List (List ℕ)) → Each (λ (d : List ℕ). isWrite d ≡ true) ds → Each (λ (e : List ℕ). isWrite e ≡ true) es →
       Interleaved (List ℕ) ds es fs → Interleaved Result (resultsOf x c ds) (resultsOf x c es) (resultsOf x c fs)
-  pub lock : (x : Fixed) (c : Contents) (ds : List (List ℕ)) → Each (λ (d : List ℕ). isWrite d ≡ true) ds → contentsAfterAll x c ds .lock ≡ c .lock
+  pub registers : (x : Fixed) (c : Contents) (ds : List (List ℕ)) → Each (λ (d : List ℕ). isWrite d ≡ true) ds → contentsAfterAll x c ds .registers ≡ c .registers
 
 -- ---- all of C-16
 

@@ -100,15 +100,15 @@ contentsAfterAll x c (d ∷ more) = contentsAfterAll x (handle x c d .contents) 
 
 -- ---- what holds of them
 
--- A write or masked write is accepted where it is answered with Received OK 0x00, whatever memory and lock hold, and
--- what is not accepted does nothing to memory. (0xA8 is answered so too, and is no write.)
+-- A write or masked write is accepted where it is answered with Received OK 0x00, whatever memory and registers hold,
+-- and what is not accepted does nothing to memory. (0xA8 is answered so too, and is no write.)
 pub record AcceptedWrites : Type 0 where
   pub writes : (spaces : List Space) (d : List ℕ) → isAcceptedWrite spaces d ≡ true → isWrite d ≡ true
   pub answered : (x : Fixed) (c : Contents) (d : List ℕ) → isAcceptedWrite (x .spaces) d ≡ true → transportOf (answerOf (handle x c d .result)) ≡ okFlags 0x00
   pub onlyThen : (x : Fixed) (c : Contents) (d : List ℕ) → isWrite d ≡ true → transportOf (answerOf (handle x c d .result)) ≡ okFlags 0x00 → isAcceptedWrite (x .spaces) d ≡ true
   pub others : (spaces : List Space) (m : ℕ) (d : List ℕ) → isAcceptedWrite spaces d ≡ false → effectOf spaces m d ≡ keepsAll m
 
--- A content of a memory of m bytes, with any lock.
+-- A content of a memory of m bytes, with any registers.
 pub record Content (m : ℕ) (c : Contents) : Type 0 where
   pub size : length (c .memory) ≡ m
   pub bytes : AllBytes (c .memory)

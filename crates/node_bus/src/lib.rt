@@ -1,4 +1,5 @@
 // A frame from its arrival on the bus to the frames that answer it.
+use exec_registers::Registers;
 use node_spec::FrameAnswer;
 ghost use Rattle.exec_spec.specs.LentBoard.{boardOf};
 ghost use Rattle.node_send.specs.Sending.{BusEnds, BusOrder};
@@ -16,7 +17,7 @@ pub fn answer_frame(
     spaces: &[u8],
     flash: &[u8],
     memory: &mut [u8],
-    lock: &mut [u8; 6],
+    registers: &mut Registers,
     pool: &mut [u8; 576],
     places: &mut [u8; 64],
     tick: u16,
@@ -26,7 +27,7 @@ pub fn answer_frame(
     frames: &mut [u8; 160],
 ) -> Sent
     ensures ends { λ r.
-        ⌜ BusEnds alias «write_lengths» spaces flash memory lock pool places tick header payload reply frames
+        ⌜ BusEnds alias «write_lengths» spaces flash memory registers pool places tick header payload reply frames
         (r .answer) (r .count) ⌝ }
     ensures order { λ _. ⌜ BusOrder (boardOf alias «write_lengths» spaces flash) ⌝ }
 {
@@ -36,7 +37,7 @@ pub fn answer_frame(
         spaces,
         flash,
         memory,
-        lock,
+        registers,
         pool,
         places,
         tick,

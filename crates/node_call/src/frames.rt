@@ -1,5 +1,5 @@
-// What a joined frame brings about, answered.
-use call_error::CallError;
+// What comes of joining a frame, answered.
+use exec_registers::Registers;
 use node_spec::FrameAnswer;
 use rx_join_spec::JoinResult;
 ghost use mathlib.Core.Path.{_≡_};
@@ -7,9 +7,9 @@ ghost use Prim.Native.Nat.{_≤_};
 ghost use lib.ListN.{length};
 ghost use Rattle.buffer.specs.Lent.{before};
 ghost use Rattle.rx_spec.specs.Books.{finish};
-ghost use Rattle.rx_join_spec.specs.Joins.{eventOf, InsidePool};
+ghost use Rattle.rx_join_spec.specs.Joins.{brings, eventOf, InsidePool};
 ghost use Rattle.exec_spec.specs.LentBoard.{boardOf};
-ghost use Rattle.node_spec.specs.FrameCall.{AnswersEvent};
+ghost use Rattle.node_spec.specs.FrameCall.{AnswersCall};
 
 // A finished datagram, handled whole.
 fn answer_datagram(
@@ -18,13 +18,14 @@ fn answer_datagram(
     spaces: &[u8],
     flash: &[u8],
     memory: &mut [u8],
-    lock: &mut [u8; 6],
+    registers: &mut Registers,
     datagram: &[u8],
     reply: &mut [u8],
 ) -> FrameAnswer
     requires { ⌜ 72 ≤ length (now reply) ⌝ }
     ensures { λ r.
-        ⌜ AnswersEvent (boardOf alias «write_lengths» spaces flash) (finish (before datagram)) r memory lock reply ⌝ }
+        ⌜ AnswersCall (boardOf alias «write_lengths» spaces flash) (brings (finish (before datagram))) r memory registers
+        reply ⌝ }
 {
     FrameAnswer::Answered(exec_datagram::handle(
         alias,
@@ -32,7 +33,7 @@ fn answer_datagram(
         spaces,
         flash,
         memory,
-        lock,
+        registers,
         datagram,
         reply,
     ))
@@ -45,7 +46,7 @@ pub fn answer_outcome(
     spaces: &[u8],
     flash: &[u8],
     memory: &mut [u8],
-    lock: &mut [u8; 6],
+    registers: &mut Registers,
     pool: &[u8],
     outcome: JoinResult,
     payload: &[u8],
@@ -53,12 +54,12 @@ pub fn answer_outcome(
 ) -> FrameAnswer
     requires { ⌜ (72 ≤ length (now reply)) × (length (now pool) ≡ 576) × InsidePool outcome ⌝ }
     ensures { λ r.
-        ⌜ AnswersEvent (boardOf alias «write_lengths» spaces flash) (eventOf outcome (before payload) (before pool)) r
-        memory lock reply ⌝ }
+        ⌜ AnswersCall (boardOf alias «write_lengths» spaces flash) (eventOf outcome (before payload) (before pool)) r
+        memory registers reply ⌝ }
 {
     match outcome {
-        JoinResult::BadState => {
-            return FrameAnswer::Refused(CallError::B7BadReceptionState);
+        JoinResult::Refused(error) => {
+            return FrameAnswer::Refused(error);
         }
         JoinResult::Ignored => {
             return FrameAnswer::Ignored;
@@ -66,7 +67,7 @@ pub fn answer_outcome(
         JoinResult::NoAnswer => {
             return FrameAnswer::Nothing;
         }
-        JoinResult::Refuse(code) => {
+        JoinResult::TransportRefusal(code) => {
             return FrameAnswer::TransportRefusal(code);
         }
         JoinResult::InFrame => {
@@ -76,7 +77,7 @@ pub fn answer_outcome(
                 spaces,
                 flash,
                 memory,
-                lock,
+                registers,
                 payload,
                 reply,
             );
@@ -89,7 +90,7 @@ pub fn answer_outcome(
                 spaces,
                 flash,
                 memory,
-                lock,
+                registers,
                 datagram,
                 reply,
             );

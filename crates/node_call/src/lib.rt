@@ -1,9 +1,13 @@
 // The three calls of a driver, from the caller to the answer and to what is left: a frame, a whole datagram, and a lone
 // tick.
 use call_error::Checked;
+use exec_registers::Registers;
 use node_spec::FrameAnswer;
 use node_spec::Handled;
+ghost use mathlib.Core.Path.{_≡_};
+ghost use Rattle.exec_spec.specs.Handling.{Fixed, Contents};
 ghost use Rattle.exec_spec.specs.LentBoard.{boardOf};
+ghost use Rattle.node_spec.specs.CallerErrors.{laterCheck};
 ghost use Rattle.node_spec.specs.FrameCall.{FrameEnds};
 ghost use Rattle.node_spec.specs.NodeOrder.{NodeTheorems};
 ghost use Rattle.node_spec.specs.DatagramCall.{DatagramEnds};
@@ -11,7 +15,16 @@ ghost use Rattle.node_spec.specs.TickCall.{tickAnswer, TickLeaves};
 
 mod frames;
 
-// Handles a frame that came from the bus at a tick. The bytes of unfinished datagrams are in the pool, 72 for each
+// The first error that applies of those that come after B7: there are none yet. Document 02's B10, B8 and B15 are to be
+// asked here, of what is lent.
+fn check_later() -> Checked
+    ensures { λ r. ⌜ ((x : Fixed) (c : Contents) → r ≡ laterCheck x c) ⌝ }
+{
+    Checked::Passed
+}
+
+// Handles a frame that came from the bus at a tick. The caller's errors come first: those before B7 here, and B7 with
+// those after it where the frame is joined, so that one search through the places does for all. The bytes of unfinished datagrams are in the pool, 72 for each
 // place.
 pub fn handle_frame(
     alias: u16,
@@ -19,7 +32,7 @@ pub fn handle_frame(
     spaces: &[u8],
     flash: &[u8],
     memory: &mut [u8],
-    lock: &mut [u8; 6],
+    registers: &mut Registers,
     pool: &mut [u8; 576],
     places: &mut [u8; 64],
     tick: u16,
@@ -28,21 +41,22 @@ pub fn handle_frame(
     reply: &mut [u8],
 ) -> FrameAnswer
     ensures ends { λ r.
-        ⌜ FrameEnds alias «write_lengths» spaces flash memory lock pool places tick header payload reply r ⌝ }
+        ⌜ FrameEnds alias «write_lengths» spaces flash memory registers pool places tick header payload reply r ⌝ }
     ensures theorems { λ _. ⌜ NodeTheorems (boardOf alias «write_lengths» spaces flash) ⌝ }
 {
     let checked = call_check::check_call(alias, spaces, flash.len(), memory.len(), reply.len());
     if let Checked::Failed(error) = checked {
         return FrameAnswer::Refused(error);
     }
-    let outcome = rx_join::join(pool, places, alias, tick, header, payload);
+    let later = check_later();
+    let outcome = rx_join::join(pool, places, alias, tick, header, payload, later);
     frames::answer_outcome(
         alias,
         write_lengths,
         spaces,
         flash,
         memory,
-        lock,
+        registers,
         &pool[..],
         outcome,
         payload,
@@ -57,11 +71,11 @@ pub fn handle_datagram(
     spaces: &[u8],
     flash: &[u8],
     memory: &mut [u8],
-    lock: &mut [u8; 6],
+    registers: &mut Registers,
     datagram: &[u8],
     reply: &mut [u8],
 ) -> Handled
-    ensures { λ r. ⌜ DatagramEnds alias «write_lengths» spaces flash memory lock datagram reply r ⌝ }
+    ensures { λ r. ⌜ DatagramEnds alias «write_lengths» spaces flash memory registers datagram reply r ⌝ }
 {
     let checked = call_check::check_call(alias, spaces, flash.len(), memory.len(), reply.len());
     if let Checked::Failed(error) = checked {
@@ -73,7 +87,7 @@ pub fn handle_datagram(
         spaces,
         flash,
         memory,
-        lock,
+        registers,
         datagram,
         reply,
     );

@@ -13,7 +13,7 @@ use Rattle.buffer.proofs.Choice.{cond-elim, and-left}
 use Rattle.call_error.specs.declared.CallError.{CallError}
 use Rattle.can_frame.specs.declared.Frame.{Frame}
 use Rattle.can_frame_bytes.specs.Layout.{framesBytes}
-use Rattle.rx_spec.specs.Reception.{State}
+use Rattle.rx_place_spec.specs.State.{State}
 use Rattle.rx_spec.specs.Order as order
 use Rattle.rx_spec.specs.Order.{callerError, ignoredFrame, nothing, transportRefusal, handled, runCalls}
 use Rattle.tx_cut_spec.specs.Cutting.{aliases, cutFrames}

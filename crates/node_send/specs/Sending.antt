@@ -7,11 +7,10 @@ use lib.ListN.{length, take}
 use Rattle.buffer.specs.Buffer.{over}
 use Rattle.buffer.specs.Lent.{LentBytes, before, after}
 use Rattle.call_error.specs.declared.CallError.{CallError}
-use Rattle.call_error.specs.declared.CallError.the-variants.{B7BadReceptionState}
 use Rattle.can_frame.specs.declared.Frame.{Frame}
 use Rattle.can_frame.specs.Frame.{sourceOf}
 use Rattle.can_frame_bytes.specs.Layout.{framesBytes}
-use Rattle.rx_spec.specs.Reception.{State}
+use Rattle.rx_place_spec.specs.State.{State}
 use Rattle.rx_spec.specs.Times.{Input, frameInput, loneTick, Timed, eventsOf}
 use Rattle.rx_spec.specs.Order as order
 use Rattle.rx_spec.specs.Order.{callerError, ignoredFrame, nothing, transportRefusal, handled, answersTo}
@@ -102,19 +101,19 @@ abbrev pub BusOrder : Fixed → Type 0
 BusOrder x =
     (st : State) (c : Contents) (ks : List Call) → OrderlyCalls x st c ks
     → sentInCalls x st c ks ≡ sentTo (x .alias) (map heardOf ks)
-    (answersTo B7BadReceptionState (handler x) c (eventsOf (x .alias) (map heardOf ks)))
+    (answersTo (handler x) c (eventsOf (x .alias) (map heardOf ks)))
 
 -- ---- what the code gives back
 
 -- Everything that the caller finds after a frame is handled and answered, of what it lent and handed in.
-module _ (alias lengths : ℕ) (spaces flash memory lock pool places : LentBytes) (tick header : ℕ)
+module _ (alias lengths : ℕ) (spaces flash memory registers pool places : LentBytes) (tick header : ℕ)
     (payload reply frames : LentBytes) where
   -- The frames to send to the frame's source.
   abbrev pub lentFramesSent : List Frame
   lentFramesSent =
       sentFor alias (sourceOf header)
-      (lentFrameCall alias lengths spaces flash memory lock pool places tick header payload reply .answer)
+      (lentFrameCall alias lengths spaces flash memory registers pool places tick header payload reply .answer)
 
   pub record BusEnds (answer : FrameAnswer) (count : ℕ) : Type 0 where
-    pub ends : FrameEnds alias lengths spaces flash memory lock pool places tick header payload reply answer
+    pub ends : FrameEnds alias lengths spaces flash memory registers pool places tick header payload reply answer
     pub sent : Made lentFramesSent count (before frames) (after frames)

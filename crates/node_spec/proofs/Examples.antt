@@ -10,20 +10,24 @@ use Rattle.buffer.specs.Buffer.{putAt, Each}
 use Rattle.buffer.proofs.Choice.{clash}
 use Rattle.space_table.specs.declared.Space.{Space}
 use Rattle.call_error.specs.CallErrors.{among, spacesCheck, descriptionCheck}
-use Rattle.call_error.specs.declared.CallError.the-variants.{B7BadReceptionState}
-use Rattle.call_error.specs.declared.Checked.the-variants.{Passed}
-use Rattle.can_frame.specs.Frame.{canFrame, kindOfFrame, addressed, roleOf}
-use Rattle.rx_spec.specs.Place.{Place}
-use Rattle.rx_spec.specs.Ticks.{tickAt, age, isDue, dropDue}
+use Rattle.call_error.specs.declared.CallError.the-variants.{B6ReplyBufferTooShort, B7BadReceptionState}
+use Rattle.call_error.specs.declared.Checked.the-variants.{Passed, Failed}
+use Rattle.can_frame.specs.Frame.{CanFrame, canFrame, kindOfFrame, addressed, roleOf}
+use Rattle.rx_place_spec.specs.Place.{Place, heldFor}
+use Rattle.rx_place_spec.specs.Ticks.{tickAt, age, isDue, dropDue}
 use Rattle.rx_spec.specs.Times.{Timed, InTime, momentsOf}
+use Rattle.rx_place_spec.specs.State.{State, state}
 use Rattle.rx_spec.specs.Reception.{isFor, keptIn, joinSound, receive, atTick}
-use Rattle.rx_spec.specs.Order.{handleFrame, handleTick, runCalls, AtMostEight, InOrder}
-use Rattle.rx_spec.specs.Aging.{Unrefused, lastFrom, momentsTo, FarBefore, EachAccepted, freeCount, FirstAt}
-use Rattle.rx_spec.proofs.Examples.{junk, fresh-junk, begins, eight-begin, edge, eight-tools, edge-in-time, eight-held, eight-held-any}
-use Rattle.exec_spec.specs.Handling.{Fixed}
+use Rattle.rx_spec.specs.Order.{frameResult, callerError, handleFrame, handleTick, runCalls, AtMostEight, InOrder, Unrefused}
+use Rattle.rx_source_spec.specs.Aging.{lastFrom, momentsTo, FarBefore, EachAccepted, freeCount, FirstAt}
+use Rattle.rx_spec.proofs.Examples.{junk, fresh-junk, begins, eight-begin, edge, eight-tools, edge-in-time}
+use Rattle.rx_source_spec.proofs.Examples.{eight-held, eight-held-any}
+use Rattle.exec_registers.specs.Registers.{Registers, registersAtStart}
+use Rattle.exec_spec.specs.Handling.{Fixed, Contents}
 use Rattle.exec_spec.specs.Performing.{fixed, contents}
-use Rattle.node_spec.specs.DatagramCall.{datagramCheck}
+use Rattle.node_spec.specs.CallerErrors.{earlierCheck, datagramCheck, frameCheck, tickCheck}
 use Rattle.node_spec.specs.FrameCall.{handler, frameCall}
+use Rattle.node_spec.specs.TickCall.{tickCall}
 use Rattle.node_spec.specs.NodeOrder.{Call, frameAt, loneTickAt, heardOf, BufferFits, makeCall, OwnCall, makeOwn}
 use Rattle.node_spec.proofs.CallLaws.{node-theorems}
 
@@ -72,12 +76,12 @@ buffers-fit =
     (h, (h, (h, (h, (h, (h, (h, (h, (tt, (tt, tt))))))))))
 
 -- the statement speaks of them
-node-order-at-the-edge : (flash memory lock : List ℕ) → length flash ≡ 65536 → length memory ≡ 65536 →
-    InOrder B7BadReceptionState (handler (board flash)) (board flash .alias) (contents memory lock) (map heardOf edge-calls)
-    (runCalls (makeCall (board flash)) junk (contents memory lock) edge-calls)
+node-order-at-the-edge : (flash memory : List ℕ) (registers : Registers) → length flash ≡ 65536 → length memory ≡ 65536 →
+    InOrder (handler (board flash)) (board flash .alias) (contents memory registers) (map heardOf edge-calls)
+    (runCalls (makeCall (board flash)) junk (contents memory registers) edge-calls)
 unfolding board
-node-order-at-the-edge flash memory lock f m =
-    node-theorems (board flash) .order junk (contents memory lock) edge-calls
+node-order-at-the-edge flash memory registers f m =
+    node-theorems (board flash) .order junk (contents memory registers) edge-calls
     (record {
       fresh = fresh-junk;
       fit = rw m (no-error flash f);
@@ -87,9 +91,9 @@ node-order-at-the-edge flash memory lock f m =
     })
 
 -- as many bytes there are
-node-order-met : InOrder B7BadReceptionState (handler (board (zeros 65536))) (board (zeros 65536) .alias) (contents (zeros 65536) []) (map heardOf edge-calls)
-    (runCalls (makeCall (board (zeros 65536))) junk (contents (zeros 65536) []) edge-calls)
-node-order-met = node-order-at-the-edge (zeros 65536) (zeros 65536) [] (length-zeros 65536) (length-zeros 65536)
+node-order-met : InOrder (handler (board (zeros 65536))) (board (zeros 65536) .alias) (contents (zeros 65536) registersAtStart) (map heardOf edge-calls)
+    (runCalls (makeCall (board (zeros 65536))) junk (contents (zeros 65536) registersAtStart) edge-calls)
+node-order-met = node-order-at-the-edge (zeros 65536) (zeros 65536) registersAtStart (length-zeros 65536) (length-zeros 65536)
 
 -- ---- eight free places
 
@@ -97,25 +101,25 @@ node-order-met = node-order-at-the-edge (zeros 65536) (zeros 65536) [] (length-z
 -- board, handed to one with another description; and 3,001 ticks after the first
 own-calls : List OwnCall
 own-calls =
-    record { fixed = fixed 1 0 [] []; contents = contents [] []; call = loneTickAt 0 }
-    ∷ record { fixed = fixed 0x123 0 [] []; contents = contents [] []; call = frameAt 9999999 (canFrame 0x1B123005 []) (zeros 71) }
-    ∷ record { fixed = fixed 2 0 [] (1 ∷ []); contents = contents (7 ∷ []) []; call = frameAt 1 (canFrame 0x1B123005 []) (zeros 72) }
+    record { fixed = fixed 1 0 [] []; contents = contents [] registersAtStart; call = loneTickAt 0 }
+    ∷ record { fixed = fixed 0x123 0 [] []; contents = contents [] registersAtStart; call = frameAt 9999999 (canFrame 0x1B123005 []) (zeros 71) }
+    ∷ record { fixed = fixed 2 0 [] (1 ∷ []); contents = contents (7 ∷ []) registersAtStart; call = frameAt 1 (canFrame 0x1B123005 []) (zeros 72) }
     ∷ []
 
-own-in-time : InTime (momentsTo 3001 (λ (k : OwnCall). heardOf (k .call)) makeOwn eight-held (contents [] []) own-calls)
-unfolding own-calls zeros eight-held isDue dropDue isFor keptIn joinSound receive handleFrame handleTick kindOfFrame addressed roleOf frameCall datagramCheck descriptionCheck spacesCheck
+own-in-time : InTime (momentsTo 3001 (λ (k : OwnCall). heardOf (k .call)) makeOwn eight-held (contents [] registersAtStart) own-calls)
+unfolding own-calls zeros eight-held isDue dropDue isFor keptIn joinSound receive handleFrame handleTick kindOfFrame addressed roleOf frameCall tickCall frameCheck tickCheck earlierCheck descriptionCheck spacesCheck
 own-in-time = ((omega arith, λ s e. omega arith), ((omega arith, λ s e. omega arith), tt))
 
-own-far : FirstAt (FarBefore 3001) (momentsTo 3001 (λ (k : OwnCall). heardOf (k .call)) makeOwn eight-held (contents [] []) own-calls)
-unfolding own-calls zeros eight-held isDue dropDue isFor keptIn joinSound receive handleFrame handleTick kindOfFrame addressed roleOf frameCall datagramCheck descriptionCheck spacesCheck
+own-far : FirstAt (FarBefore 3001) (momentsTo 3001 (λ (k : OwnCall). heardOf (k .call)) makeOwn eight-held (contents [] registersAtStart) own-calls)
+unfolding own-calls zeros eight-held isDue dropDue isFor keptIn joinSound receive handleFrame handleTick kindOfFrame addressed roleOf frameCall tickCall frameCheck tickCheck earlierCheck descriptionCheck spacesCheck
 own-far = omega arith
 
-none-accepted : EachAccepted (FarBefore 3001) (λ (k : OwnCall). heardOf (k .call)) makeOwn eight-held (contents [] []) own-calls
-unfolding own-calls zeros eight-held isDue dropDue isFor keptIn joinSound receive handleFrame handleTick kindOfFrame addressed roleOf frameCall datagramCheck descriptionCheck spacesCheck
+none-accepted : EachAccepted (FarBefore 3001) (λ (k : OwnCall). heardOf (k .call)) makeOwn eight-held (contents [] registersAtStart) own-calls
+unfolding own-calls zeros eight-held isDue dropDue isFor keptIn joinSound receive handleFrame handleTick kindOfFrame addressed roleOf frameCall tickCall frameCheck tickCheck earlierCheck descriptionCheck spacesCheck
 none-accepted = (λ e. clash (sym e), (λ e. clash (sym e), (λ e. clash (sym e), tt)))
 
-free-at-the-edge : freeCount (atTick (tickAt 3001) (runCalls makeOwn eight-held (contents [] []) own-calls .state) .places) ≡ 8
-free-at-the-edge = node-theorems (fixed 1 0 [] []) .aging .eight-free eight-held (contents [] []) own-calls 3001 eight-held-any own-in-time (λ s e. own-far) none-accepted
+free-at-the-edge : freeCount (atTick (tickAt 3001) (runCalls makeOwn eight-held (contents [] registersAtStart) own-calls .state) .places) ≡ 8
+free-at-the-edge = node-theorems (fixed 1 0 [] []) .aging .eight-free eight-held (contents [] registersAtStart) own-calls 3001 eight-held-any own-in-time (λ s e. own-far) none-accepted
 
 -- ---- ages
 
@@ -126,14 +130,39 @@ small = fixed 0x123 0 [] []
 paused : List Call
 paused = loneTickAt 7 ∷ frameAt 1000007 (canFrame 0x1B123005 []) (zeros 72) ∷ []
 
-paused-in-time : InTime (momentsTo 1062006 heardOf (makeCall small) junk (contents [] []) paused)
-unfolding small paused zeros junk putAt isDue dropDue isFor keptIn joinSound receive handleFrame handleTick kindOfFrame addressed roleOf frameCall datagramCheck descriptionCheck spacesCheck
+paused-in-time : InTime (momentsTo 1062006 heardOf (makeCall small) junk (contents [] registersAtStart) paused)
+unfolding small paused zeros junk putAt isDue dropDue isFor keptIn joinSound receive handleFrame handleTick kindOfFrame addressed roleOf frameCall tickCall frameCheck tickCheck earlierCheck descriptionCheck spacesCheck
 paused-in-time = ((omega arith, λ s e. clash (sym e)), ((omega arith, λ s e. omega arith), tt))
 
-paused-unrefused : Unrefused (makeCall small) junk (contents [] []) paused
-unfolding small paused zeros junk putAt isDue dropDue isFor keptIn joinSound receive handleFrame handleTick kindOfFrame addressed roleOf frameCall datagramCheck descriptionCheck spacesCheck
+paused-unrefused : Unrefused (makeCall small) junk (contents [] registersAtStart) paused
+unfolding small paused zeros junk putAt isDue dropDue isFor keptIn joinSound receive handleFrame handleTick kindOfFrame addressed roleOf frameCall tickCall frameCheck tickCheck earlierCheck descriptionCheck spacesCheck
 paused-unrefused = (refl, (refl, tt))
 
-ages-at-the-edge : Each (λ (p : Place). p .held ≡ true → lastFrom heardOf (makeCall small) (p .source) 0 junk (contents [] []) paused + age (tickAt 1062006) (p .tick) ≡ 1062006)
-    (runCalls (makeCall small) junk (contents [] []) paused .state .places)
-ages-at-the-edge = node-theorems small .aging .ages junk (contents [] []) paused 1062006 fresh-junk paused-in-time paused-unrefused
+ages-at-the-edge : Each (λ (p : Place). p .held ≡ true → lastFrom heardOf (makeCall small) (p .source) 0 junk (contents [] registersAtStart) paused + age (tickAt 1062006) (p .tick) ≡ 1062006)
+    (runCalls (makeCall small) junk (contents [] registersAtStart) paused .state .places)
+ages-at-the-edge = node-theorems small .aging .ages junk (contents [] registersAtStart) paused 1062006 fresh-junk paused-in-time paused-unrefused
+
+-- ---- the first error of the caller that applies
+
+-- one source twice, and both places due at the tick 3,001
+twice : State
+twice = state (heldFor 5 0 0 ∷ heldFor 5 0 0 ∷ []) []
+
+-- B6 comes before B7
+b6-first : (c : Contents) → length (c .memory) ≡ 0 → frameCheck small (zeros 71) twice c ≡ Failed B6ReplyBufferTooShort
+unfolding small zeros frameCheck earlierCheck descriptionCheck spacesCheck
+b6-first c e = rw e
+
+-- B7 is asked before anything is dropped, of a frame and of a lone tick, and nothing is
+b7-of-a-frame : (c : Contents) (f : CanFrame) → length (c .memory) ≡ 0 → frameCall small (zeros 72) 3001 twice c f ≡ frameResult twice c (callerError B7BadReceptionState)
+unfolding small zeros twice isFor frameCall frameCheck earlierCheck descriptionCheck spacesCheck
+b7-of-a-frame c f e = rw e
+
+b7-of-a-tick : (c : Contents) → tickCall 3001 twice c ≡ frameResult twice c (callerError B7BadReceptionState)
+unfolding twice isFor tickCall tickCheck
+b7-of-a-tick c = refl
+
+-- a whole datagram brings no reception state
+no-b7-of-a-datagram : (c : Contents) → length (c .memory) ≡ 0 → datagramCheck small c (zeros 72) ≡ Passed
+unfolding small zeros datagramCheck earlierCheck descriptionCheck spacesCheck
+no-b7-of-a-datagram c e = rw e

@@ -5,18 +5,17 @@ use mathlib.Core.Path.{_≡_}
 use Rattle.buffer.specs.Lent.{LentBytes, before, after}
 use Rattle.call_error.specs.CallErrors.{unlessFailed}
 use Rattle.call_error.specs.declared.CallError.{CallError}
-use Rattle.call_error.specs.declared.CallError.the-variants.{B7BadReceptionState}
 use Rattle.can_frame.specs.Frame.{CanFrame, canFrame}
-use Rattle.rx_spec.specs.Reception.{State}
-use Rattle.rx_spec.specs.Books.{Event}
+use Rattle.rx_place_spec.specs.State.{State}
 use Rattle.rx_spec.specs.Order as order
 use Rattle.rx_spec.specs.Order.{FrameResult, frameResult, callerError, ignoredFrame, nothing, transportRefusal, handled, answerEvent, handleFrame}
-use Rattle.rx_spec.specs.PlaceBytes.{placesIn, stateBefore, renewed}
+use Rattle.rx_place_spec.specs.PlaceBytes.{placesIn, stateBefore, renewed}
+use Rattle.rx_join_spec.specs.Joins.{CallEvent, refusedBy, brings}
 use Rattle.reply_answer.specs.Answers.{Result, answerOf, bufferOf, SmallAnswer}
 use Rattle.exec_spec.specs.Access.{Changes}
 use Rattle.exec_spec.specs.Handling.{Fixed, Contents, handle, Short}
-use Rattle.exec_spec.specs.LentBoard.{boardOf, contentsBefore}
-use Rattle.node_spec.specs.DatagramCall.{datagramCheck}
+use Rattle.exec_spec.specs.LentBoard.{boardOf, contentsBefore, contentsAfter}
+use Rattle.node_spec.specs.CallerErrors.{frameCheck}
 use Rattle.node_spec.specs.declared.FrameAnswer.{FrameAnswer}
 use Rattle.node_spec.specs.declared.FrameAnswer.the-variants as answer
 
@@ -27,13 +26,13 @@ use Rattle.node_spec.specs.declared.FrameAnswer.the-variants as answer
 abbrev pub handler : Fixed → Contents → List ℕ → Result × Contents
 handler x c d = let o = handle x c d in (o .result, o .contents)
 
--- "House numbers .. checked first at each call; nothing changes": those of the description and the buffer, then B7 of
--- the state; then what is due at the tick `now` is dropped, the frame is joined, and a finished datagram handled.
+-- The errors of the caller come first, and "nothing changes"; then what is due at the tick `now` is dropped, the frame
+-- is joined, and a finished datagram handled.
 unfoldable pub frameCall : Fixed → List ℕ → ℕ → State → Contents → CanFrame → FrameResult CallError Contents Result
 frameCall x buffer now st c f =
-    unlessFailed (datagramCheck x (c .memory) buffer)
+    unlessFailed (frameCheck x buffer st c)
     (λ error. frameResult st c (callerError error))
-    (handleFrame B7BadReceptionState (handler x) (x .alias) now st c f)
+    (handleFrame (handler x) (x .alias) now st c f)
 
 -- ---- what the code gives back
 
@@ -61,20 +60,23 @@ ShortFrame nothing = Unit {0}
 ShortFrame (transportRefusal code) = Unit {0}
 ShortFrame (handled r) = Short r
 
--- The answer r, the buffer `after`, memory and lock are what x says, over the buffer `before`.
-pub record Answers (x : FrameResult CallError Contents Result) (r : FrameAnswer) (before after stored held : List ℕ) : Type 0 where
+-- The answer r, the buffer `after` and the contents `left` are what x says, over the buffer `before`.
+pub record Answers (x : FrameResult CallError Contents Result) (r : FrameAnswer) (before after : List ℕ) (left : Contents) : Type 0 where
   pub answer : r ≡ frameAnswerOf (x .answer)
   pub reply : after ≡ frameBufferOf (x .answer) before
-  pub memory : stored ≡ x .world .memory
-  pub lock : held ≡ x .world .lock
+  pub contents : left ≡ x .world
   pub short : ShortFrame (x .answer)
 
--- What a frame brings about is answered so, whatever it left of the reception state, with memory, lock and reply buffer
--- as they are lent.
-abbrev pub AnswersEvent : Fixed → Event → FrameAnswer → LentBytes → LentBytes → LentBytes → Type 0
-AnswersEvent x e r memory lock reply =
+-- What comes of joining, answered: an error of the caller, which "nothing changes", or what the frame brings about.
+abbrev pub answerCall : Fixed → State → Contents → CallEvent → FrameResult CallError Contents Result
+answerCall x st c (refusedBy error) = frameResult st c (callerError error)
+answerCall x st c (brings e) = answerEvent (handler x) st c e
+
+-- It is answered so, whatever is left of the reception state, with memory, registers and reply buffer as they are lent.
+abbrev pub AnswersCall : Fixed → CallEvent → FrameAnswer → LentBytes → LentBytes → LentBytes → Type 0
+AnswersCall x e r memory registers reply =
     (st : State) →
-    Answers (answerEvent B7BadReceptionState (handler x) st (contentsBefore memory lock) e) r (before reply) (after reply) (after memory) (after lock)
+    Answers (answerCall x st (contentsBefore memory registers) e) r (before reply) (after reply) (contentsAfter memory registers)
 
 -- How large the numbers of an answer are.
 abbrev pub SmallFrame : FrameAnswer → Type 0
@@ -101,15 +103,15 @@ pub record Keeps (x : FrameResult CallError Contents Result) (before after bytes
   pub pool : bytes ≡ x .state .pool
 
 -- Everything that the caller finds after the frame call, of what it lent and handed in.
-module _ (alias lengths : ℕ) (spaces flash memory lock pool places : LentBytes) (tick header : ℕ)
+module _ (alias lengths : ℕ) (spaces flash memory registers pool places : LentBytes) (tick header : ℕ)
     (payload reply : LentBytes) where
   abbrev pub lentFrameCall : FrameResult CallError Contents Result
   lentFrameCall =
       frameCall (boardOf alias lengths spaces flash) (before reply) tick (stateBefore places pool)
-      (contentsBefore memory lock) (canFrame header (before payload))
+      (contentsBefore memory registers) (canFrame header (before payload))
 
   pub record FrameEnds (r : FrameAnswer) : Type 0 where
-    pub answers : Answers lentFrameCall r (before reply) (after reply) (after memory) (after lock)
+    pub answers : Answers lentFrameCall r (before reply) (after reply) (contentsAfter memory registers)
     pub keeps : Keeps lentFrameCall (before places) (after places) (after pool)
     pub small : SmallFrame r
     pub changes : FrameChanges r (before memory) (after memory)

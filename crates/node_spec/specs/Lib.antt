@@ -1,3 +1,4 @@
+pub mod CallerErrors
 pub mod DatagramCall
 pub mod FrameCall
 pub mod TickCall

@@ -6,15 +6,14 @@ use mathlib.Core.Path.{_≡_}
 use lib.ListN.{length}
 use Rattle.call_error.specs.CallErrors.{descriptionCheck}
 use Rattle.call_error.specs.declared.CallError.{CallError}
-use Rattle.call_error.specs.declared.CallError.the-variants.{B7BadReceptionState}
 use Rattle.call_error.specs.declared.Checked.the-variants.{Passed}
 use Rattle.can_frame.specs.Frame.{CanFrame}
-use Rattle.rx_spec.specs.Ticks.{tickAt}
+use Rattle.rx_place_spec.specs.Ticks.{tickAt}
 use Rattle.rx_spec.specs.Times.{frameInput, loneTick, Timed, timed}
-use Rattle.rx_spec.specs.Reception.{State}
+use Rattle.rx_place_spec.specs.State.{State}
 use Rattle.rx_spec.specs.Order.{FrameResult, Orderly, OrderStatement}
-use Rattle.rx_spec.specs.Aging.{TrueAges, EightFree}
-use Rattle.rx_spec.specs.OneSource.{OneSource}
+use Rattle.rx_source_spec.specs.Aging.{TrueAges, EightFree}
+use Rattle.rx_source_spec.specs.OneSource.{OneSource}
 use Rattle.reply_answer.specs.Answers.{Result}
 use Rattle.exec_spec.specs.Handling.{Fixed, Contents}
 use Rattle.node_spec.specs.FrameCall.{handler, frameCall}
@@ -51,7 +50,7 @@ OrderlyCalls x st c ks = Orderly heardOf BufferFits (MemoryFits x) (x .alias) st
 
 -- The order statement of these calls.
 abbrev pub NodeOrder : Fixed → Type 0
-NodeOrder x = OrderStatement heardOf BufferFits (MemoryFits x) B7BadReceptionState (handler x) (x .alias) (makeCall x)
+NodeOrder x = OrderStatement heardOf BufferFits (MemoryFits x) (handler x) (x .alias) (makeCall x)
 
 -- A call with all that is lent for it but the reception state.
 pub record OwnCall : Type 0 where
@@ -64,8 +63,8 @@ abbrev pub makeOwn : State → Contents → OwnCall → FrameResult CallError Co
 makeOwn st left k = makeCall (k .fixed) st (k .contents) (k .call)
 
 -- Of every list of these calls without an error of the caller, whatever the description and the buffers: the wrapping
--- age is the true age. And of every list of calls that each bring a description, flash, memory, lock and buffer of
--- their own, any of them with an error of the caller: eight places are free once frames stop being accepted.
+-- age is the true age. And of every list of calls that each bring a description, flash, memory, registers and buffer
+-- of their own, any of them with an error of the caller: eight places are free once frames stop being accepted.
 pub record NodeAging (x : Fixed) : Type 0 where
   pub ages : TrueAges heardOf (makeCall x)
   pub eight-free : EightFree (λ (k : OwnCall). heardOf (k .call)) makeOwn
@@ -74,7 +73,7 @@ pub record NodeAging (x : Fixed) : Type 0 where
 -- number of tools: a tool that is not refused with 0x2020 is answered by its book. "One rejection for one broken
 -- datagram" is what the book says.
 abbrev pub NodeSource : Fixed → Type 0
-NodeSource x = OneSource heardOf B7BadReceptionState (handler x) (x .alias) (makeCall x)
+NodeSource x = OneSource heardOf (handler x) (x .alias) (makeCall x)
 
 -- What is shown of every list of these calls, by a board's description and flash.
 pub record NodeTheorems (x : Fixed) : Type 0 where

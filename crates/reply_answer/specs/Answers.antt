@@ -10,16 +10,20 @@ use Rattle.buffer.specs.Buffer.{over}
 use Rattle.reply_answer.specs.declared.Answer.{Answer}
 use Rattle.reply_answer.specs.declared.Answer.the-variants.{Rejected, Written, UpdateComplete, Replied}
 
--- How a datagram is answered.
-pub data Result : Type 0 where
+-- How a datagram is answered. A reply is given by an R, which is its fields or its bytes.
+pub data Answered (R : Type 0) : Type 0 where
   -- Rejected with a code
-  datagramRejected : ℕ → Result
+  datagramRejected : ℕ → Answered R
   -- a write or a masked write, of n bytes from an index of memory on: "Success is Received OK 0x00 and nothing more"
-  written : ℕ → ℕ → Result
+  written : ℕ → ℕ → Answered R
   -- "0xA8, two bytes: Received OK 0x00"
-  updateCompleted : Result
+  updateCompleted : Answered R
   -- Received OK 0x80, and then a reply datagram
-  receivedOkReply : List ℕ → Result
+  receivedOkReply : R → Answered R
+
+-- with the bytes of the reply
+abbrev pub Result : Type 0
+Result = Answered (List ℕ)
 
 -- The transport reply that an answer stands for: Received OK with its flags, or Rejected with its code.
 pub data Transport : Type 0 where

@@ -1,27 +1,35 @@
--- Document 01, "Commands": the bytes of the replies to reads, writes and masked writes, and of the lock's.
-use Prim.Native.Nat.{ℕ, _+_}
-use mathlib.Core.List.{List, _∷_, _++_}
-use Rattle.buffer.specs.BigEndian.{twoBytes}
-use Rattle.cmd_fields.specs.Commands.{formBits}
+-- Document 01, "Commands": what the board replies to reads, writes and masked writes, and to 0x88, by the fields of the
+-- reply. "These replies carry no text."
+use Prim.Native.Nat.{ℕ}
+use mathlib.Core.List.{List}
 use Rattle.cmd_fields.specs.declared.Form.{Form}
-use Rattle.reply_head.specs.Head.{replyHead}
+use Rattle.reply_spec.specs.ReplyForms.{noText, Reply, read, readFailure, writeFailure, locked, replyBytes}
+use Rattle.reply_answer.specs.Answers.{Answered, datagramRejected, written, updateCompleted, receivedOkReply, Result, Agrees}
+use Rattle.reply_answer.specs.declared.Answer.{Answer}
 
--- "a reply with command + 0x10, same address and space byte", and the bytes read: 0x40–0x43 have the low two bits that
--- choose the space
-abbrev pub readReply : Form → ℕ → ℕ → List ℕ → List ℕ
-readReply form space address bytes = replyHead (0x50 + formBits form) form space address ++ bytes
+-- "a reply with command + 0x10, same address and space byte", and the bytes read
+abbrev pub readReply : Form → ℕ → ℕ → List ℕ → Reply
+readReply = read
 
--- "a reply with the address, the space byte if the command had one, and two bytes of code"
-abbrev pub failureReply : ℕ → Form → ℕ → ℕ → ℕ → List ℕ
-failureReply command form space address code = replyHead (command + formBits form) form space address ++ twoBytes code
+-- "a reply with the address, the space byte if the command had one, and two bytes of code": of a read, and of a write or
+-- a masked write
+abbrev pub failedRead : Form → ℕ → ℕ → ℕ → Reply
+failedRead form space address code = readFailure form space address code noText
 
--- "Its command is 0x58, 0x18 or 0x18, plus the low two bits."
-abbrev pub failedRead : Form → ℕ → ℕ → ℕ → List ℕ
-failedRead = failureReply 0x58
-
-abbrev pub failedWrite : Form → ℕ → ℕ → ℕ → List ℕ
-failedWrite = failureReply 0x18
+abbrev pub failedWrite : Form → ℕ → ℕ → ℕ → Reply
+failedWrite form space address code = writeFailure form space address code noText
 
 -- "Reply 20 8A and the lock memory afterwards."
-abbrev pub lockReply : List ℕ → List ℕ
-lockReply held = 0x20 ∷ 0x8A ∷ held
+abbrev pub lockReply : List ℕ → Reply
+lockReply = locked
+
+-- An answer whose reply is given by its fields, with the bytes of the reply.
+abbrev pub inBytes : Answered Reply → Result
+inBytes (datagramRejected code) = datagramRejected code
+inBytes (written index n) = written index n
+inBytes updateCompleted = updateCompleted
+inBytes (receivedOkReply reply) = receivedOkReply (replyBytes reply)
+
+-- The answer r and the buffer `after` are those of this reply, over the buffer `before`.
+abbrev pub Sends : Reply → Answer → List ℕ → List ℕ → Type 0
+Sends reply r before after = Agrees (inBytes (receivedOkReply reply)) r before after

@@ -4,67 +4,39 @@ use reply_answer::Answer;
 use space_lookup::Found;
 use space_table::Space;
 ghost use mathlib.Core.Path.{_≡_};
-ghost use mathlib.Core.List.{_++_};
-ghost use Prim.Native.Nat.{_+_, _≤_, _<_};
+ghost use Prim.Native.Nat.{_≤_};
 ghost use lib.ListN.{length};
 ghost use Rattle.buffer.specs.Lent.{before, after};
-ghost use Rattle.reply_answer.specs.Answers.{receivedOkReply, Agrees};
-ghost use Rattle.cmd_fields.specs.Commands.{formBits};
-ghost use Rattle.reply_head.specs.Head.{replyHead};
-ghost use Rattle.reply_datagram.specs.Replies.{readReply, failedRead, failedWrite, lockReply};
+ghost use Rattle.reply_datagram.specs.Replies.{readReply, failedRead, failedWrite, lockReply, Sends};
 ghost use Rattle.space_table.specs.Table.{spacesIn};
 ghost use Rattle.reply_datagram.specs.Inquiry.{optionsReply, accessFlag, absentReply, informationReply};
 
-// The low two bits of the request's command.
-fn form_bits(form: Form) -> u8
-    ensures { λ r. ⌜ (r ≡ formBits form) × (r ≤ 3) ⌝ }
-{
-    match form {
-        Form::NoSpace => 0,
-        Form::Byte6 => 0,
-        Form::Fd => 1,
-        Form::Fe => 2,
-        Form::Ff => 3,
-    }
-}
-
-// Writes a reply whose command has the low two bits of the request's.
-fn send(reply: &mut [u8], command: u8, form: Form, space: u8, address: u32, src: &[u8]) -> Answer
-    requires { ⌜ command < 0xF0 ⌝ }
-    ensures { λ r.
-        ⌜ Agrees (receivedOkReply (replyHead (command + formBits form) form space address ++ before src)) r
-        (before reply) (after reply) ⌝ }
-{
-    reply_head::send(reply, command + form_bits(form), form, space, address, src)
-}
-
 // The reply to a read: the bytes read.
 pub fn read(reply: &mut [u8], form: Form, space: u8, address: u32, bytes: &[u8]) -> Answer
-    ensures { λ r.
-        ⌜ Agrees (receivedOkReply (readReply form space address (before bytes))) r (before reply) (after reply) ⌝ }
+    ensures { λ r. ⌜ Sends (readReply form space address (before bytes)) r (before reply) (after reply) ⌝ }
 {
-    send(reply, 0x50, form, space, address, bytes)
+    reply_head::send(reply, 0x50, form, space, address, bytes)
 }
 
 // The reply to a read that failed.
 pub fn failed_read(reply: &mut [u8], form: Form, space: u8, address: u32, code: u16) -> Answer
-    ensures { λ r. ⌜ Agrees (receivedOkReply (failedRead form space address code)) r (before reply) (after reply) ⌝ }
+    ensures { λ r. ⌜ Sends (failedRead form space address code) r (before reply) (after reply) ⌝ }
 {
     let bytes = [(code / 256) as u8, (code % 256) as u8];
-    send(reply, 0x58, form, space, address, &bytes)
+    reply_head::send(reply, 0x58, form, space, address, &bytes)
 }
 
 // The reply to a write or a masked write that failed.
 pub fn failed_write(reply: &mut [u8], form: Form, space: u8, address: u32, code: u16) -> Answer
-    ensures { λ r. ⌜ Agrees (receivedOkReply (failedWrite form space address code)) r (before reply) (after reply) ⌝ }
+    ensures { λ r. ⌜ Sends (failedWrite form space address code) r (before reply) (after reply) ⌝ }
 {
     let bytes = [(code / 256) as u8, (code % 256) as u8];
-    send(reply, 0x18, form, space, address, &bytes)
+    reply_head::send(reply, 0x18, form, space, address, &bytes)
 }
 
 // 0x88: the lock memory, which has six bytes.
 pub fn lock(reply: &mut [u8], held: [u8; 6]) -> Answer
-    ensures reply { λ r. ⌜ Agrees (receivedOkReply (lockReply held)) r (before reply) (after reply) ⌝ }
+    ensures reply { λ r. ⌜ Sends (lockReply held) r (before reply) (after reply) ⌝ }
     ensures six { λ _. ⌜ length held ≡ 6 ⌝ }
 {
     let bytes = [
@@ -82,9 +54,7 @@ pub fn lock(reply: &mut [u8], held: [u8; 6]) -> Answer
 
 // 0x80: what the board can do.
 pub fn options(out: &mut [u8], write_lengths: u8, spaces: &[u8]) -> Answer
-    ensures { λ r.
-        ⌜ Agrees (receivedOkReply (optionsReply «write_lengths» (spacesIn (before spaces)))) r (before out)
-        (after out) ⌝ }
+    ensures { λ r. ⌜ Sends (optionsReply «write_lengths» (spacesIn (before spaces))) r (before out) (after out) ⌝ }
 {
     let lowest = space_lookup::lowest_number(spaces);
     let bytes = [0x20u8, 0x82, 0xE0, 0x00, write_lengths, 0xFF, lowest];
@@ -101,15 +71,14 @@ fn access_flag(space: Space) -> u8
 }
 
 fn absent(out: &mut [u8], number: u8) -> Answer
-    ensures { λ r. ⌜ Agrees (receivedOkReply (absentReply number)) r (before out) (after out) ⌝ }
+    ensures { λ r. ⌜ Sends (absentReply number) r (before out) (after out) ⌝ }
 {
     let bytes = [0x20u8, 0x86, number, 0, 0, 0, 0, 0];
     reply_answer::whole(out, &bytes)
 }
 
 fn present(out: &mut [u8], number: u8, space: Space) -> Answer
-    ensures { λ r.
-        ⌜ Agrees (receivedOkReply (informationReply number (Found.Described space))) r (before out) (after out) ⌝ }
+    ensures { λ r. ⌜ Sends (informationReply number (Found.Described space)) r (before out) (after out) ⌝ }
 {
     let flag = access_flag(space);
     let h = buffer::bytes(space.highest);
@@ -137,7 +106,7 @@ fn present(out: &mut [u8], number: u8, space: Space) -> Answer
 
 // 0x84: what is known of a space.
 pub fn information(out: &mut [u8], number: u8, found: Found) -> Answer
-    ensures { λ r. ⌜ Agrees (receivedOkReply (informationReply number found)) r (before out) (after out) ⌝ }
+    ensures { λ r. ⌜ Sends (informationReply number found) r (before out) (after out) ⌝ }
 {
     match found {
         Found::Described(space) => {

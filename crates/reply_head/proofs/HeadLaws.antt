@@ -10,10 +10,9 @@ use Rattle.buffer.specs.Buffer.{over, placed}
 use Rattle.buffer.proofs.Choice.{cond-elim}
 use Rattle.buffer.proofs.Laws.{put-first, put-sets, placed-sets, put-nil, place-over}
 use Rattle.buffer.specs.BigEndian.{bytesOf}
-use Rattle.cmd_fields.specs.Commands.{spaceByte}
+use Rattle.cmd_fields.specs.Commands.{withForm, spaceByte, headBytes}
 use Rattle.cmd_fields.specs.declared.Form.{Form}
 use Rattle.cmd_fields.specs.declared.Form.the-variants.{NoSpace, Byte6, Fd, Fe, Ff}
-use Rattle.reply_head.specs.Head.{replyHead}
 
 -- the space byte put behind six bytes
 pub no-byte : (buffer : List ℕ) → buffer ≡ placed 6 [] buffer
@@ -36,20 +35,20 @@ space-length Fe m = refl
 space-length Ff m = refl
 
 module _ (command : ℕ) (form : Form) (space address n : ℕ) (src buffer : List ℕ) (e : n ≡ 6 + length (spaceByte form 0)) where
-  head-length : length (replyHead command form space address) ≡ n
-  unfolding replyHead
+  head-length : length (headBytes command form space address) ≡ n
+  unfolding headBytes
   head-length = omega (arith, space-length form space, e)
 
-  pub reply-length : length (replyHead command form space address ++ src) ≡ n + length src
-  reply-length = length-append (replyHead command form space address) src ∙ rw head-length
+  pub reply-length : length (headBytes command form space address ++ src) ≡ n + length src
+  reply-length = length-append (headBytes command form space address) src ∙ rw head-length
 
   -- the three pieces of a reply
-  pub three-pieces : {first second third : List ℕ} → n + length src ≤ length buffer →
-      first ≡ over (0x20 ∷ command ∷ bytesOf address) buffer → second ≡ placed 6 (spaceByte form space) first → third ≡ placed n src second →
-      third ≡ over (replyHead command form space address ++ src) buffer
-  unfolding replyHead
-  three-pieces {first} {second} {third} h p q r =
+  pub three-pieces : {byte1 : ℕ} {first second third : List ℕ} → n + length src ≤ length buffer → byte1 ≡ withForm command form →
+      first ≡ over (0x20 ∷ byte1 ∷ bytesOf address) buffer → second ≡ placed 6 (spaceByte form space) first → third ≡ placed n src second →
+      third ≡ over (headBytes command form space address ++ src) buffer
+  unfolding headBytes
+  three-pieces {byte1} {first} {second} {third} h b p q r =
       let l = space-length form space in
-      let q' : second ≡ over (replyHead command form space address) buffer =
-      q ∙ place-over (0x20 ∷ command ∷ bytesOf address) (spaceByte form space) buffer 6 p refl (omega arith) in
-      r ∙ place-over (replyHead command form space address) src buffer n q' head-length h
+      let q' : second ≡ over (headBytes command form space address) buffer =
+      q ∙ place-over (0x20 ∷ withForm command form ∷ bytesOf address) (spaceByte form space) buffer 6 (p ∙ rw b) refl (omega arith) in
+      r ∙ place-over (headBytes command form space address) src buffer n q' head-length h

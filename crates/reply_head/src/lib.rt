@@ -1,5 +1,5 @@
-// A reply that begins with a command, an address and perhaps a space byte. Its first bytes are stored straight into the
-// lent buffer.
+// A datagram that begins with a command, an address and perhaps a space byte. Its first bytes are stored straight into
+// the lent buffer.
 use cmd_fields::Form;
 use reply_answer::Answer;
 ghost use mathlib.Core.Path.{_≡_};
@@ -10,8 +10,7 @@ ghost use Rattle.buffer.specs.Lent.{before, after};
 ghost use Rattle.buffer.specs.Buffer.{over, placed};
 ghost use Rattle.buffer.specs.BigEndian.{bytesOf};
 ghost use Rattle.reply_answer.specs.Answers.{receivedOkReply, Agrees};
-ghost use Rattle.cmd_fields.specs.Commands.{spaceByte};
-ghost use Rattle.reply_head.specs.Head.{replyHead};
+ghost use Rattle.cmd_fields.specs.Commands.{spaceByte, headBytes};
 
 // How long the first bytes of a reply are.
 fn head_length(form: Form) -> usize
@@ -57,7 +56,8 @@ fn put_space(reply: &mut [u8], form: Form, space: u8)
     }
 }
 
-// Writes a reply: its first bytes, and behind them `src`; or nothing where the buffer has no room for all.
+// Writes a reply: its first bytes, with the low two bits of the form in its command, and behind them `src`; or nothing
+// where the buffer has no room for all.
 pub fn send(
     reply: &mut [u8],
     command: u8,
@@ -67,7 +67,7 @@ pub fn send(
     src: &[u8],
 ) -> Answer
     ensures { λ r.
-        ⌜ Agrees (receivedOkReply (replyHead command form space address ++ before src)) r (before reply)
+        ⌜ Agrees (receivedOkReply (headBytes command form space address ++ before src)) r (before reply)
         (after reply) ⌝ }
 {
     let n = head_length(form);
@@ -77,7 +77,7 @@ pub fn send(
     if reply.len() - n < src.len() {
         return Answer::Replied(0);
     }
-    put_command(reply, command, address);
+    put_command(reply, cmd_fields::with_form(command, form), address);
     put_space(reply, form, space);
     buffer::put(reply, n, src);
     Answer::Replied(n + src.len())

@@ -12,17 +12,26 @@ ghost use lib.ListN.{getD};
 ghost use Rattle.buffer.specs.Lent.{before, after};
 ghost use Rattle.buffer.specs.Buffer.{placed};
 ghost use Rattle.rx_step.specs.declared.Step.the-variants as does;
-ghost use Rattle.rx_spec.specs.Place.{freePlace};
+ghost use Rattle.rx_place_spec.specs.Place.{freePlace};
 ghost use Rattle.rx_spec.specs.Reception.{freeIn, placeOf, sound, joinSound};
-ghost use Rattle.rx_spec.specs.PlaceBytes.{placesIn, placeBytes, stateIn, stateBefore};
+ghost use Rattle.rx_place_spec.specs.PlaceBytes.{placesIn, placeBytes, stateIn, stateBefore};
 ghost use Rattle.rx_join_spec.specs.Joins.{Joins, Lies};
 ghost use Rattle.rx_join_spec.specs.Inner.{Lent, Appendable, Own, Allowed, stepDone, LiesAfter};
 
 // The bytes of the pool for each place.
-const PLACE_ROOM: usize = 72;
+const PLACE_ROOM: u32 = 72;
 
 // The code of the transport refusal where there is no free place.
 const BUFFER_UNAVAILABLE: u16 = 0x2020;
+
+// Where the bytes of place i begin in the pool. The product has 32 bits: for one of 64, a processor that has none calls
+// a routine.
+fn room_at(i: usize) -> usize
+    requires { ⌜ i < 8 ⌝ }
+    ensures { λ r. ⌜ r ≡ 72 * i ⌝ }
+{
+    (PLACE_ROOM * i as u32) as usize
+}
 
 // Place i freed, if it is there, and what comes of the frame.
 fn leave(places: &mut [u8], i: usize, outcome: JoinResult) -> JoinResult
@@ -42,7 +51,7 @@ fn refuse_and_swallow(places: &mut [u8; 64], i: usize, source: u16, code: u16) -
 {
     let tick = rx_place::tick_at(places, i);
     rx_place::swallow(places, i, source, tick);
-    JoinResult::Refuse(code)
+    JoinResult::TransportRefusal(code)
 }
 
 // Whether a place of a source that is being swallowed, with that length and tick, is as a frame at the tick `at` leaves
@@ -98,9 +107,9 @@ fn open(
 {
     let k = room_for(places, i);
     if rx_search::NO_PLACE <= k {
-        return JoinResult::Refuse(BUFFER_UNAVAILABLE);
+        return JoinResult::TransportRefusal(BUFFER_UNAVAILABLE);
     }
-    buffer::put(pool, PLACE_ROOM * k, payload);
+    buffer::put(pool, room_at(k), payload);
     rx_place::hold(places, k, source, payload.len() as u8, tick);
     JoinResult::NoAnswer
 }
@@ -120,7 +129,7 @@ fn append(
         ⌜ Joins (stepDone does.Append true source i (before payload) tick (stateBefore places pool)) (before payload) o
         (before places) (after places) (after pool) ⌝ }
 {
-    buffer::put(pool, PLACE_ROOM * i + len as usize, payload);
+    buffer::put(pool, room_at(i) + len as usize, payload);
     rx_place::hold(places, i, source, len + payload.len() as u8, tick);
     JoinResult::NoAnswer
 }
@@ -134,7 +143,7 @@ fn close(pool: &mut [u8], places: &mut [u8; 64], i: usize, len: u8, payload: &[u
         (before places) (after places) (after pool) ⌝ }
     ensures lies { λ o. ⌜ LiesAfter does.Close i o ⌝ }
 {
-    let from = PLACE_ROOM * i;
+    let from = room_at(i);
     let end = from + len as usize;
     buffer::put(pool, end, payload);
     rx_place::free(places, i);
@@ -176,7 +185,7 @@ fn take_step(
             return close(pool, places, i, len, payload);
         }
         Step::Refuse(code) => {
-            return leave(places, i, JoinResult::Refuse(code));
+            return leave(places, i, JoinResult::TransportRefusal(code));
         }
         Step::RefuseAndSwallow(code) => {
             return refuse_and_swallow(places, i, source, code);

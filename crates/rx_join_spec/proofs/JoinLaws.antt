@@ -19,24 +19,25 @@ use Rattle.can_frame.specs.Frame.{canFrame, sourceOf, addressed, roleOf}
 use Rattle.rx_step.specs.declared.Step.{Step}
 use Rattle.rx_step.specs.declared.Step.the-variants.{Ignore, Deliver, Open, Append, Close, Refuse, RefuseAndSwallow, Swallow, SwallowLast}
 use Rattle.rx_step.specs.Step.{stepNew, stepMore, stepSwallowed, stepOf}
-use Rattle.rx_spec.specs.Place.{Place, place, heldFor, swallowingFor, freePlace}
-use Rattle.rx_spec.specs.Ticks.{dropDue}
-use Rattle.rx_spec.specs.Books.{blank, holds, swallowing, noAnswer, refuse, finish, outOfOrder, temporaryError, bufferUnavailable}
-use Rattle.rx_spec.specs.Reception.{State, state, placeOf, freeIn, hasPlace, full, sizeAt, bytesOfPlace, dropped, appended, closed, keptAfterRefusal, Joined, joined, joinRule, joinSound, receive, isFor, sound, atTick}
-use Rattle.rx_spec.specs.PlaceBytes.{placesIn, placeBytes, stateIn, samePlace, renewed}
+use Rattle.rx_place_spec.specs.Place.{Place, place, heldFor, swallowingFor, freePlace}
+use Rattle.rx_place_spec.specs.Ticks.{dropDue}
+use Rattle.rx_spec.specs.Books.{Event, blank, holds, swallowing, noAnswer, refuse, finish, outOfOrder, temporaryError, bufferUnavailable}
+use Rattle.rx_place_spec.specs.State.{State, state}
+use Rattle.rx_spec.specs.Reception.{placeOf, freeIn, hasPlace, full, sizeAt, bytesOfPlace, dropped, appended, closed, keptAfterRefusal, Joined, joined, joinRule, joinSound, receive, isFor, sound, atTick}
+use Rattle.rx_place_spec.specs.PlaceBytes.{placesIn, placeBytes, stateIn, samePlace, renewed}
 use Rattle.rx_spec.proofs.PlaceLaws.{isFor-held, isFor-source, good-short, kept-bytes, kept-swallowing, sound-good, good-sound, place-found, place-out, free, free-out, blank-of}
-use Rattle.rx_spec.proofs.ByteLaws.{places-length, renewed-same, Changed, changed-places, changed-bytes, differ-held, differ-len, differ-tick, differ-swallowing}
+use Rattle.rx_place_spec.proofs.ByteLaws.{places-length, renewed-same, Changed, changed-places, changed-bytes, differ-held, differ-len, differ-tick, differ-swallowing}
 use Rattle.rx_spec.proofs.StepLaws.{joins}
-use Rattle.rx_spec.proofs.DropLaws.{good-due, sized-due, length-due}
+use Rattle.rx_spec.proofs.DropLaws.{good-due, sized-due}
 use Rattle.rx_spec.proofs.DropBytes.{renewed-after}
 use Rattle.rx_join_spec.specs.declared.JoinResult.{JoinResult}
 use Rattle.rx_join_spec.specs.declared.JoinResult.the-variants as outcome
-use Rattle.rx_join_spec.specs.Joins.{eventOf, InsidePool, Joins}
+use Rattle.rx_join_spec.specs.Joins.{brings, eventOf, InsidePool, Joins}
 use Rattle.rx_join_spec.specs.Inner.{Lent, Appendable, Own, Allowed, freedIf, stepDone}
 
 -- the state stays as it was
-pub stays-joins : (d pool xs : List ℕ) (o : JoinResult) → InsidePool o → Joins (joined (stateIn xs pool) (eventOf o d pool)) d o xs xs pool
-stays-joins d pool xs o i = record { places = refl; renewal = renewed-same xs; pool = refl; event = refl; inside = i }
+pub stays-joins : (d pool xs : List ℕ) (o : JoinResult) (e : Event) → eventOf o d pool ≡ brings e → InsidePool o → Joins (joined (stateIn xs pool) e) d o xs xs pool
+stays-joins d pool xs o e b i = record { places = refl; renewal = renewed-same xs; pool = refl; event = b; inside = i }
 
 -- ---- opened
 
@@ -45,14 +46,14 @@ module _ (s i : ℕ) (d : List ℕ) (now : ℕ) (pool xs : List ℕ) (k : ℕ) (
   abbrev opening : Bool → Joined
   opening b = stepDone Open b s i d now (stateIn xs pool)
 
-  pub open-full : 8 ≤ k → Joins (opening (ltb i 8)) d (outcome.Refuse bufferUnavailable) xs xs pool
+  pub open-full : 8 ≤ k → Joins (opening (ltb i 8)) d (outcome.TransportRefusal bufferUnavailable) xs xs pool
   open-full h = found (ltb i 8) refl
     where
-      go : (b : Bool) → full (placesIn xs) ≡ b → k ≡ freeIn (placesIn xs) → Joins (opening false) d (outcome.Refuse bufferUnavailable) xs xs pool
-      go true q n = rw q (stays-joins d pool xs (outcome.Refuse bufferUnavailable) tt)
+      go : (b : Bool) → full (placesIn xs) ≡ b → k ≡ freeIn (placesIn xs) → Joins (opening false) d (outcome.TransportRefusal bufferUnavailable) xs xs pool
+      go true q n = rw q (stays-joins d pool xs (outcome.TransportRefusal bufferUnavailable) (refuse bufferUnavailable) refl tt)
       go false q n = absurd (omega (arith, places-length xs, free (placesIn xs) q .inside))
 
-      found : (b : Bool) → ltb i 8 ≡ b → Joins (opening b) d (outcome.Refuse bufferUnavailable) xs xs pool
+      found : (b : Bool) → ltb i 8 ≡ b → Joins (opening b) d (outcome.TransportRefusal bufferUnavailable) xs xs pool
       found true q = let n : k ≡ i = rw q at e in absurd (omega (arith, ltb-true i 8 q))
       found false q = go (full (placesIn xs)) refl (rw q at e)
 
@@ -94,7 +95,7 @@ module _ (i s : ℕ) (d : List ℕ) (now : ℕ) (pool xs : List ℕ) where
 
   -- a refused frame, after which what follows is swallowed
   pub refuse-and-swallow-done : (unfinished : Bool) (code tick : ℕ) (after : List ℕ) → Own i s false xs → tick ≡ held .tick → Changed i (swallowingFor s tick) xs after →
-      Joins (stepDone (RefuseAndSwallow code) unfinished s i d now (stateIn xs pool)) d (outcome.Refuse code) xs after pool
+      Joins (stepDone (RefuseAndSwallow code) unfinished s i d now (stateIn xs pool)) d (outcome.TransportRefusal code) xs after pool
   refuse-and-swallow-done unfinished code tick after u e c =
       rw (← e)
       (record {
@@ -169,28 +170,28 @@ module _ (i n : ℕ) (last : Bool) (d pool xs : List ℕ) (m : Lent pool d) (u :
         places = changed-places c;
         renewal = changed-bytes c (differ-held (getD (placesIn xs) i freePlace) freePlace true (u .held) refl);
         pool = put;
-        event = ap finish (rw put (whole end q));
+        event = ap (λ (y : List ℕ). brings (finish y)) (rw put (whole end q));
         inside = (omega arith, omega (arith, u .inside, u .total));
       })
 
 -- ---- left
 
 -- place i becomes free, if it is there
-pub left-joins : (i : ℕ) (d pool xs : List ℕ) (o : JoinResult) (after : List ℕ) → InsidePool o → length xs ≡ 64 → (i < 8 → getD (placesIn xs) i freePlace .held ≡ true) →
-    after ≡ placed (8 * i) (placeBytes freePlace) xs → Joins (joined (freedIf (ltb i 8) i (stateIn xs pool)) (eventOf o d pool)) d o xs after pool
-left-joins i d pool xs o after inside z held a = go (ltb i 8) refl
+pub left-joins : (i : ℕ) (d pool xs : List ℕ) (o : JoinResult) (e : Event) (after : List ℕ) → eventOf o d pool ≡ brings e → InsidePool o → length xs ≡ 64 → (i < 8 → getD (placesIn xs) i freePlace .held ≡ true) →
+    after ≡ placed (8 * i) (placeBytes freePlace) xs → Joins (joined (freedIf (ltb i 8) i (stateIn xs pool)) e) d o xs after pool
+left-joins i d pool xs o e after b inside z held a = go (ltb i 8) refl
   where
-    go : (b : Bool) → ltb i 8 ≡ b → Joins (joined (freedIf b i (stateIn xs pool)) (eventOf o d pool)) d o xs after pool
+    go : (t : Bool) → ltb i 8 ≡ t → Joins (joined (freedIf t i (stateIn xs pool)) e) d o xs after pool
     go true y =
         let c : Changed i freePlace xs after = record { inside = ltb-true i 8 y; size = z; bytes = a } in
         record {
           places = changed-places c;
           renewal = changed-bytes c (differ-held (getD (placesIn xs) i freePlace) freePlace true (held (ltb-true i 8 y)) refl);
           pool = refl;
-          event = refl;
+          event = b;
           inside = inside;
         }
-    go false y = rw (a ∙ sym (placed-not (8 * i) (placeBytes freePlace) xs (omega (arith, ltb-false i 8 y)))) (stays-joins d pool xs o inside)
+    go false y = rw (a ∙ sym (placed-not (8 * i) (placeBytes freePlace) xs (omega (arith, ltb-false i 8 y)))) (stays-joins d pool xs o e b inside)
 
 -- ---- what a step stands for
 
@@ -340,67 +341,39 @@ module _ (s i : ℕ) (d : List ℕ) (now : ℕ) (pool xs : List ℕ) (m : Lent p
 
 -- ---- the frame
 
--- what `arrive` says: 9, or the place
-module _ (s i now : ℕ) (xs : List ℕ) (e : i ≡ cond (sound (placesIn xs)) (placeOf s (dropDue now (placesIn xs))) 9) where
-  at-most : placeOf s (dropDue now (placesIn xs)) ≤ 8
-  at-most =
-      let l : length (dropDue now (placesIn xs)) ≡ 8 = length-due now (placesIn xs) ∙ places-length xs in
-      by-test (hasPlace s (dropDue now (placesIn xs)))
-      (λ u. omega (arith, place-found s (dropDue now (placesIn xs)) [] u .inside))
-      (λ u. omega (arith, place-out s (dropDue now (placesIn xs)) u))
-
-  pub arrived-not-sound : i ≡ 9 → sound (placesIn xs) ≡ false
-  arrived-not-sound n =
-      by-test (sound (placesIn xs)) (λ q. let y : i ≡ placeOf s (dropDue now (placesIn xs)) = rw q at e in absurd (omega (arith, at-most))) (λ q. q)
-
-  pub arrived-sound : (i ≡ 9 → ⊥) → (sound (placesIn xs) ≡ true) × (i ≡ placeOf s (dropDue now (placesIn xs)))
-  arrived-sound n = by-test (sound (placesIn xs)) (λ q. (q, rw q at e)) (λ q. absurd (n (rw q at e)))
-
--- the places, which were xs, are `mid` after the drop
-module _ (alias now header : ℕ) (d pool xs mid : List ℕ) (places : placesIn mid ≡ cond (sound (placesIn xs)) (dropDue now (placesIn xs)) (placesIn xs))
-    (renewal : mid ≡ renewed (cond (sound (placesIn xs)) (dropDue now (placesIn xs)) (placesIn xs)) xs) where
+-- B7 lets the places, which were xs, pass, and they are `mid` after the drop
+module _ (alias now header : ℕ) (d pool xs mid : List ℕ) (ok : sound (placesIn xs) ≡ true) (places : placesIn mid ≡ dropDue now (placesIn xs))
+    (renewal : mid ≡ renewed (dropDue now (placesIn xs)) xs) where
   abbrev received : Joined
   received = receive alias now (stateIn xs pool) (canFrame header d)
 
-  pub bad-joins : sound (placesIn xs) ≡ false → Joins received d outcome.BadState xs mid pool
+  pub mid-sound : sound (placesIn mid) ≡ true
+  mid-sound = rw places (good-sound (dropDue now (placesIn xs)) (good-due now (placesIn xs) (sound-good (placesIn xs) ok)))
+
+  pub mid-place : (s i : ℕ) → i ≡ placeOf s (dropDue now (placesIn xs)) → i ≡ placeOf s (placesIn mid)
+  mid-place s i q = rw places q
+
+  pub long-joins : 8 < length d → Joins received d outcome.Ignored xs mid pool
+  unfolding receive joinSound roleOf addressed
+  long-joins h = rw (lt-leb (length d) 8 h) (record { places = places; renewal = renewal; pool = refl; event = refl; inside = tt })
+
+  -- the frame joined to what is left
+  pub sound-joins : (role : Role) (s : ℕ) (o : JoinResult) (after bytes : List ℕ) → length pool ≡ 576 → role ≡ roleOf alias header (length d) → s ≡ sourceOf header →
+      Joins (joinSound role s d now (stateIn mid pool)) d o mid after bytes → Joins received d o xs after bytes
   unfolding receive
-  bad-joins e = rw e (record { places = rw e at places; renewal = rw e at renewal; pool = refl; event = refl; inside = tt })
-
-  module _ (e : sound (placesIn xs) ≡ true) where
-    dropped-places : placesIn mid ≡ dropDue now (placesIn xs)
-    dropped-places = rw e at places
-
-    dropped-bytes : mid ≡ renewed (dropDue now (placesIn xs)) xs
-    dropped-bytes = rw e at renewal
-
-    pub mid-sound : sound (placesIn mid) ≡ true
-    mid-sound = rw dropped-places (good-sound (dropDue now (placesIn xs)) (good-due now (placesIn xs) (sound-good (placesIn xs) e)))
-
-    pub mid-place : (s i : ℕ) → i ≡ placeOf s (dropDue now (placesIn xs)) → i ≡ placeOf s (placesIn mid)
-    mid-place s i q = rw dropped-places q
-
-    pub long-joins : 8 < length d → Joins received d outcome.Ignored xs mid pool
-    unfolding receive joinSound roleOf addressed
-    long-joins h = rw (e, lt-leb (length d) 8 h) (record { places = dropped-places; renewal = dropped-bytes; pool = refl; event = refl; inside = tt })
-
-    -- the frame joined to what is left
-    pub sound-joins : (role : Role) (s : ℕ) (o : JoinResult) (after bytes : List ℕ) → length pool ≡ 576 → role ≡ roleOf alias header (length d) → s ≡ sourceOf header →
-        Joins (joinSound role s d now (stateIn mid pool)) d o mid after bytes → Joins received d o xs after bytes
-    unfolding receive
-    sound-joins role s o after bytes l u v j =
-        let st : State = atTick now (stateIn xs pool) in
-        let q : stateIn mid pool ≡ st = ap (λ (ps : List Place). state ps pool) dropped-places in
-        let w : joinSound role s d now (stateIn mid pool) ≡ joinSound (roleOf alias header (length d)) (sourceOf header) d now st =
-        ap (λ (x : State). joinSound role s d now x) q ∙ rw (← u, ← v) in
-        let k : Joins (joinSound (roleOf alias header (length d)) (sourceOf header) d now st) d o mid after bytes = subst (λ (x : Joined). Joins x d o mid after bytes) w j in
-        let step = joins alias now (canFrame header d) st (good-due now (placesIn xs) (sound-good (placesIn xs) e))
-        (sized-due now (stateIn xs pool) (record { eight = places-length xs; bytes = l })) in
-        rw e
-        (record {
-          places = k .places;
-          renewal = k .renewal ∙ ap (renewed (joinSound (roleOf alias header (length d)) (sourceOf header) d now st .state .places)) dropped-bytes
-              ∙ renewed-after now (sourceOf header) _ xs _ (step .turned);
-          pool = k .pool;
-          event = k .event;
-          inside = k .inside;
-        })
+  sound-joins role s o after bytes l u v j =
+      let st : State = atTick now (stateIn xs pool) in
+      let q : stateIn mid pool ≡ st = ap (λ (ps : List Place). state ps pool) places in
+      let w : joinSound role s d now (stateIn mid pool) ≡ joinSound (roleOf alias header (length d)) (sourceOf header) d now st =
+      ap (λ (x : State). joinSound role s d now x) q ∙ rw (← u, ← v) in
+      let k : Joins (joinSound (roleOf alias header (length d)) (sourceOf header) d now st) d o mid after bytes = subst (λ (x : Joined). Joins x d o mid after bytes) w j in
+      let step = joins alias now (canFrame header d) st (good-due now (placesIn xs) (sound-good (placesIn xs) ok))
+      (sized-due now (stateIn xs pool) (record { eight = places-length xs; bytes = l })) in
+      record {
+        places = k .places;
+        renewal = k .renewal ∙ ap (renewed (joinSound (roleOf alias header (length d)) (sourceOf header) d now st .state .places)) renewal
+            ∙ renewed-after now (sourceOf header) _ xs _ (step .turned);
+        pool = k .pool;
+        event = k .event;
+        inside = k .inside;
+      }

@@ -11,11 +11,12 @@ use Rattle.can_frame.specs.declared.Role.the-variants.{Ignored, Single, First, 
 use Rattle.rx_step.specs.declared.Step.{Step}
 use Rattle.rx_step.specs.declared.Step.the-variants.{Ignore, Deliver, Open, Append, Close, Refuse, RefuseAndSwallow, Swallow, SwallowLast}
 use Rattle.rx_step.specs.Step.{stepOf}
-use Rattle.rx_spec.specs.Books.{Event, ignored, noAnswer, refuse, finish, badState, bufferUnavailable}
-use Rattle.rx_spec.specs.Reception.{State, full, freeIn, opened, Joined, joined}
+use Rattle.rx_spec.specs.Books.{Event, ignored, noAnswer, refuse, finish, bufferUnavailable}
+use Rattle.rx_place_spec.specs.State.{State}
+use Rattle.rx_spec.specs.Reception.{full, freeIn, opened, Joined, joined}
 use Rattle.rx_join_spec.specs.declared.JoinResult.{JoinResult}
 use Rattle.rx_join_spec.specs.declared.JoinResult.the-variants as outcome
-use Rattle.rx_join_spec.specs.Joins.{Lies, Joins}
+use Rattle.rx_join_spec.specs.Joins.{CallEvent, refusedBy, brings, Lies, Joins}
 use Rattle.rx_join_spec.specs.Inner.{stepDone, LiesAfter}
 
 -- ---- what finishes nothing
@@ -25,7 +26,12 @@ finishes ignored = false
 finishes noAnswer = false
 finishes (refuse code) = false
 finishes (finish d) = true
-finishes badState = false
+
+-- a call that is refused finishes nothing
+call-finishes : CallEvent → Bool
+unfolding finishes
+call-finishes (refusedBy error) = false
+call-finishes (brings e) = finishes e
 
 pub record Unfinishing (e : Event) : Type 0 where
   no : finishes e ≡ false
@@ -48,13 +54,13 @@ opening false s i d now st = go (full (st .places))
     go false = no-answer
 
 pub nowhere : (x : Step) (i : ℕ) (o : JoinResult) {j : Joined} {d xs after bytes : List ℕ} → Joins j d o xs after bytes → Unfinishing (j .event) → LiesAfter x i o
-unfolding finishes
-nowhere x i outcome.BadState j u = tt
+unfolding finishes call-finishes
+nowhere x i (outcome.Refused error) j u = tt
 nowhere x i outcome.Ignored j u = tt
 nowhere x i outcome.NoAnswer j u = tt
-nowhere x i (outcome.Refuse code) j u = tt
-nowhere x i outcome.InFrame j u = clash (ap finishes (j .event) ∙ u .no)
-nowhere x i (outcome.InPool from end) j u = clash (ap finishes (j .event) ∙ u .no)
+nowhere x i (outcome.TransportRefusal code) j u = tt
+nowhere x i outcome.InFrame j u = clash (ap call-finishes (j .event) ∙ u .no)
+nowhere x i (outcome.InPool from end) j u = clash (ap call-finishes (j .event) ∙ u .no)
 
 -- ---- which frame a step is for
 
@@ -99,9 +105,9 @@ for-frame Last n false w l = tt
 -- where a datagram lies by the step, and so by the frame
 pub by-frame : (role : Role) (n : ℕ) (b w : Bool) (l : ℕ) (x : Step) → x ≡ stepOf role n b w l → (i : ℕ) (o : JoinResult) → LiesAfter x i o → Lies role i o
 unfolding ForFrame
-by-frame role n b w l x e i outcome.BadState a = tt
+by-frame role n b w l x e i (outcome.Refused error) a = tt
 by-frame role n b w l x e i outcome.Ignored a = tt
 by-frame role n b w l x e i outcome.NoAnswer a = tt
-by-frame role n b w l x e i (outcome.Refuse code) a = tt
+by-frame role n b w l x e i (outcome.TransportRefusal code) a = tt
 by-frame role n b w l x e i outcome.InFrame a = subst (λ (y : Step). ForFrame y role) (sym e ∙ a) (for-frame role n b w l)
 by-frame role n b w l x e i (outcome.InPool from end) a = (subst (λ (y : Step). ForFrame y role) (sym e ∙ a .0) (for-frame role n b w l), a .1)

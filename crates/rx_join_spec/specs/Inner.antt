@@ -7,10 +7,11 @@ use lib.ListN.{length, getD}
 use Rattle.can_frame.specs.declared.Role.the-variants.{First}
 use Rattle.rx_step.specs.declared.Step.{Step}
 use Rattle.rx_step.specs.declared.Step.the-variants.{Ignore, Deliver, Open, Append, Close, Refuse, RefuseAndSwallow, Swallow, SwallowLast}
-use Rattle.rx_spec.specs.Place.{freePlace}
+use Rattle.rx_place_spec.specs.Place.{freePlace}
 use Rattle.rx_spec.specs.Books.{blank, ignored, noAnswer, refuse, finish}
-use Rattle.rx_spec.specs.Reception.{State, isFor, bytesOfPlace, dropped, opened, appended, closed, swallowed, keptAfterRefusal, Joined, joined, joinRule}
-use Rattle.rx_spec.specs.PlaceBytes.{placesIn}
+use Rattle.rx_place_spec.specs.State.{State}
+use Rattle.rx_spec.specs.Reception.{isFor, bytesOfPlace, dropped, opened, appended, closed, swallowed, keptAfterRefusal, Joined, joined, joinRule}
+use Rattle.rx_place_spec.specs.PlaceBytes.{placesIn}
 use Rattle.rx_join_spec.specs.declared.JoinResult.{JoinResult}
 use Rattle.rx_join_spec.specs.declared.JoinResult.the-variants as outcome
 
@@ -65,9 +66,9 @@ stepDone SwallowLast unfinished s i d now st = joined (freedIf unfinished i st) 
 
 -- Where a finished datagram lies, by the step that finished it.
 abbrev pub LiesAfter : Step → ℕ → JoinResult → Type 0
-LiesAfter step i outcome.BadState = Unit {0}
+LiesAfter step i (outcome.Refused error) = Unit {0}
 LiesAfter step i outcome.Ignored = Unit {0}
 LiesAfter step i outcome.NoAnswer = Unit {0}
-LiesAfter step i (outcome.Refuse code) = Unit {0}
+LiesAfter step i (outcome.TransportRefusal code) = Unit {0}
 LiesAfter step i outcome.InFrame = step ≡ Deliver
 LiesAfter step i (outcome.InPool from end) = (step ≡ Close) × (from ≡ 72 * i)

@@ -1,2 +1,3 @@
+pub mod StateCheck
 pub mod Joins
 pub mod Inner

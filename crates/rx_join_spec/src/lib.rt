@@ -1,13 +1,14 @@
 // What comes of joining a frame: what the code gives back, as definitions in specs/, with what is owed for each
 // outcome; the code is in `rx_join`.
+use call_error::CallError;
 
-// What a frame brings about. A finished datagram is the frame's own data, or the part of the pool from the first number
-// up to the second.
+// What comes of a call for a frame: an error of the caller, or what the frame brings about. A finished datagram is the
+// frame's own data, or the part of the pool from the first number up to the second.
 pub enum JoinResult {
-    BadState,
+    Refused(CallError),
     Ignored,
     NoAnswer,
-    Refuse(u16),
+    TransportRefusal(u16),
     InFrame,
     InPool(usize, usize),
 }

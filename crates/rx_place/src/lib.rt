@@ -7,9 +7,9 @@ ghost use Prim.Native.Nat.{_+_, _*_, _<_};
 ghost use lib.Dec.{ltb};
 ghost use lib.ListN.{getD};
 ghost use Rattle.buffer.specs.Lent.{before, after};
-ghost use Rattle.rx_spec.specs.Place.{freePlace, place, heldFor, swallowingFor};
+ghost use Rattle.rx_place_spec.specs.Place.{freePlace, place, heldFor, swallowingFor};
 ghost use Rattle.rx_spec.specs.Reception.{isFor};
-ghost use Rattle.rx_spec.specs.PlaceBytes.{placesIn, placeBytes};
+ghost use Rattle.rx_place_spec.specs.PlaceBytes.{placesIn, placeBytes};
 ghost use Rattle.buffer.specs.Buffer.{placed};
 
 const PLACES: usize = 8;

@@ -10,11 +10,11 @@ use lib.ListN.{length, take, getD}
 use lib.Seq.{take-suc, getD-take}
 use borrow.Author.Tests.{ltb-true, ltb-false}
 use Rattle.buffer.proofs.Choice.{clash, by-test, and-left, and-right}
-use Rattle.rx_spec.specs.Place.{Place, freePlace}
+use Rattle.rx_place_spec.specs.Place.{Place, freePlace}
 use Rattle.rx_spec.specs.Reception.{isFor, hasPlace, soundBeside}
-use Rattle.rx_spec.specs.PlaceBytes.{placesIn}
+use Rattle.rx_place_spec.specs.PlaceBytes.{placesIn}
 use Rattle.rx_spec.proofs.PlaceLaws.{isFor-free, none-head, none-tail}
-use Rattle.rx_spec.proofs.ByteLaws.{at-none}
+use Rattle.rx_place_spec.proofs.ByteLaws.{at-none}
 use Rattle.rx_place_check.specs.Plain.{plainBeside}
 
 -- ---- one place more

@@ -2,7 +2,7 @@
 use mathlib.Core.Bool.{Bool, _&&_}
 use mathlib.Core.List.{List}
 use lib.Dec.{leb}
-use Rattle.rx_spec.specs.Place.{Place}
+use Rattle.rx_place_spec.specs.Place.{Place}
 use Rattle.rx_spec.specs.Reception.{soundBeside}
 
 -- What B7 asks of the held place p beside the places ps, and besides that its length is that of a datagram, also where

@@ -5,9 +5,9 @@ ghost use Prim.Native.Nat.{_≤_};
 ghost use lib.Dec.{leb};
 ghost use lib.ListN.{take, getD};
 ghost use Rattle.buffer.specs.Lent.{before};
-ghost use Rattle.rx_spec.specs.Place.{freePlace};
+ghost use Rattle.rx_place_spec.specs.Place.{freePlace};
 ghost use Rattle.rx_spec.specs.Reception.{soundBeside, hasPlace};
-ghost use Rattle.rx_spec.specs.PlaceBytes.{placesIn};
+ghost use Rattle.rx_place_spec.specs.PlaceBytes.{placesIn};
 ghost use Rattle.rx_place_check.specs.Plain.{plainBeside};
 
 // Whether an unfinished datagram may have so many bytes, and that source.

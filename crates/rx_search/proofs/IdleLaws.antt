@@ -11,9 +11,9 @@ use lib.Bits.{bitOr, or-add-and, and-le-l, and-le-r}
 use lib.ListN.{length, take, getD}
 use lib.Seq.{take-all}
 use borrow.Author.Tests.{eq-eqb}
-use Rattle.rx_spec.specs.Place.{Place, freePlace}
-use Rattle.rx_spec.specs.PlaceBytes.{placesIn}
-use Rattle.rx_spec.proofs.ByteLaws.{at-none, held-at}
+use Rattle.rx_place_spec.specs.Place.{Place, freePlace}
+use Rattle.rx_place_spec.specs.PlaceBytes.{placesIn}
+use Rattle.rx_place_spec.proofs.ByteLaws.{at-none, held-at}
 use Rattle.rx_search.specs.Search.{anyDue, looked, lookedUp}
 use Rattle.rx_search.proofs.SearchLaws.{Passed, next-free, turn, due-none, looked-done}
 

@@ -12,8 +12,8 @@ use lib.ListN.{length, take, drop, getD, drop-of-length-le}
 use lib.Seq.{drop-cons, take-suc, take-all}
 use borrow.Author.Tests.{eqb-true, eqb-false}
 use Rattle.buffer.proofs.Choice.{clash}
-use Rattle.rx_spec.specs.Place.{Place, freePlace}
-use Rattle.rx_spec.specs.Ticks.{isDue}
+use Rattle.rx_place_spec.specs.Place.{Place, freePlace}
+use Rattle.rx_place_spec.specs.Ticks.{isDue}
 use Rattle.rx_spec.specs.Reception.{isFor, placeOf, freeIn, hasPlace, soundBeside, sound}
 use Rattle.rx_spec.proofs.PlaceLaws.{isFor-held, isFor-source, isFor-self, isFor-free, isFor-else, none-head, none-tail, Fine, Good, beside-fine, fine-beside, good-sound, sound-good, place-out}
 use Rattle.rx_place_check.proofs.BesideLaws.{or-false, has-snoc, has-next, none-at, plain-sound}

@@ -2,8 +2,8 @@
 use Prim.Native.Nat.{ℕ}
 use mathlib.Core.Bool.{Bool, false, cond, not, _||_}
 use mathlib.Core.List.{List, [], _∷_}
-use Rattle.rx_spec.specs.Place.{Place}
-use Rattle.rx_spec.specs.Ticks.{isDue}
+use Rattle.rx_place_spec.specs.Place.{Place}
+use Rattle.rx_place_spec.specs.Ticks.{isDue}
 use Rattle.rx_spec.specs.Reception.{isFor, placeOf, soundBeside, sound}
 use Rattle.rx_place_check.specs.Plain.{plainBeside}
 use Rattle.rx_search.specs.declared.Looked.{Looked}

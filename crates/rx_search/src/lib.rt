@@ -6,10 +6,10 @@ ghost use Prim.Native.Nat.{ℕ};
 ghost use lib.Bits.{bitOr};
 ghost use lib.ListN.{take, getD};
 ghost use Rattle.buffer.specs.Lent.{before};
-ghost use Rattle.rx_spec.specs.Place.{freePlace};
-ghost use Rattle.rx_spec.specs.Ticks.{isDue};
+ghost use Rattle.rx_place_spec.specs.Place.{freePlace};
+ghost use Rattle.rx_place_spec.specs.Ticks.{isDue};
 ghost use Rattle.rx_spec.specs.Reception.{freeIn, sound};
-ghost use Rattle.rx_spec.specs.PlaceBytes.{placesIn};
+ghost use Rattle.rx_place_spec.specs.PlaceBytes.{placesIn};
 ghost use Rattle.rx_search.specs.Search.{unsound, passing, nextFound, lookedUp};
 
 const PLACES: usize = 8;

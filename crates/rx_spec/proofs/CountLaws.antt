@@ -11,7 +11,7 @@ use lib.Dec.{eqb}
 use lib.ListN.{length}
 use borrow.Author.Tests.{eqb-true, eqb-false, eq-eqb, ne-eqb}
 use Rattle.buffer.proofs.Choice.{clash, and-left, and-right}
-use Rattle.rx_spec.specs.Place.{Place}
+use Rattle.rx_place_spec.specs.Place.{Place}
 use Rattle.rx_spec.specs.Books.{Book, blank, isUnfinished}
 use Rattle.rx_spec.specs.Reception.{unfinishedIn, hasPlace, full}
 use Rattle.rx_spec.specs.Order.{unfinishedBelow}

@@ -8,10 +8,10 @@ use mathlib.Core.List.{List, [], _∷_}
 use native.Mathlib.Omega.{arith}
 use lib.ListN.{drop}
 use Rattle.buffer.proofs.Choice.{clash}
-use Rattle.rx_spec.specs.Place.{Place, freePlace}
-use Rattle.rx_spec.specs.Ticks.{isDue, dropDue}
-use Rattle.rx_spec.specs.PlaceBytes.{placeIn, placesFrom, placesIn, samePlace, renewed}
-use Rattle.rx_spec.proofs.ByteLaws.{same-refl, NotBack, Covers, renewed-twice, covers-where, differ-held, differ-tick}
+use Rattle.rx_place_spec.specs.Place.{Place, freePlace}
+use Rattle.rx_place_spec.specs.Ticks.{isDue, dropDue}
+use Rattle.rx_place_spec.specs.PlaceBytes.{placeIn, placesFrom, placesIn, samePlace, renewed}
+use Rattle.rx_place_spec.proofs.ByteLaws.{same-refl, NotBack, Covers, renewed-twice, covers-where, differ-held, differ-tick}
 use Rattle.rx_spec.proofs.TurnedLaws.{Turned, AllTurned}
 use Rattle.rx_spec.proofs.DropLaws.{due-held, due-age, by-due}
 

@@ -12,11 +12,12 @@ use lib.ListN.{length, drop}
 use borrow.Author.Tests.{ltb-true, ltb-false, lt-ltb, le-ltb}
 use Rattle.buffer.specs.Buffer.{Each}
 use Rattle.buffer.proofs.Choice.{clash, and-false, and-left, and-right, by-test}
-use Rattle.rx_spec.specs.Place.{Place, freePlace}
-use Rattle.rx_spec.specs.Ticks.{tickAt, age, isDue, afterTick, dropDue}
+use Rattle.rx_place_spec.specs.Place.{Place, freePlace}
+use Rattle.rx_place_spec.specs.Ticks.{tickAt, age, isDue, afterTick, dropDue}
 use Rattle.rx_spec.specs.Books.{Book, blank, isUnfinished}
 use Rattle.rx_spec.specs.Times.{Near, Follows, moment, MayFollow}
-use Rattle.rx_spec.specs.Reception.{State, isFor, unfinishedIn, hasPlace, full, atTick}
+use Rattle.rx_place_spec.specs.State.{State}
+use Rattle.rx_spec.specs.Reception.{isFor, unfinishedIn, hasPlace, full, atTick}
 use Rattle.rx_spec.proofs.PlaceLaws.{isFor-held, isFor-source, isFor-free, isFor-self, none-head, none-tail, blank-of, Good}
 use Rattle.rx_spec.proofs.TurnedLaws.{Kept, Turned, AllTurned}
 use Rattle.rx_spec.proofs.StepLaws.{Sized}

@@ -1,58 +1,26 @@
--- Worked examples: a tool with the alias 5 that has begun a datagram, at the ends of its 3,000 ticks, and after a frame that was lost, on a board
--- with the alias 0x123. And calls that the theorems speak of, at the edge of all that they assume.
+-- Worked examples: a tool with the alias 5 that has begun a datagram, and after a frame that was lost, on a board with the
+-- alias 0x123. And calls that the order statement speaks of, at the edge of all that it assumes.
 -- Assumes nothing.
 use Prim.Native.Nat.{ℕ, zero, suc, _+_, _≤_, _<_}
 use mathlib.Core.Path.{_≡_, refl, sym, ap, _∙_}
-use mathlib.Core.Logic.{_≢_, _⊎_}
+use mathlib.Core.Logic.{_≢_}
 use mathlib.Core.Bool.{true, false, cond}
-use mathlib.Core.List.{List, [], _∷_, _++_, map}
+use mathlib.Core.List.{List, [], _∷_, _++_}
 use native.Mathlib.Omega.{arith}
 use lib.Dec.{ltb, eqb}
 use lib.ListN.{take, replicate}
 use borrow.Author.Tests.{ltb-true, ltb-false, lt-ltb, ne-eqb}
 use Rattle.buffer.proofs.Choice.{clash, by-test, cond-true, cond-elim}
 use Rattle.buffer.specs.Buffer.{putAt, Each}
-use Rattle.can_frame.specs.declared.Role.the-variants.{Ignored, First, Last}
 use Rattle.can_frame.specs.Frame.{CanFrame, canFrame, kindOfFrame, addressed, sourceOf, roleOf}
-use Rattle.rx_spec.specs.Place.{Place, place, heldFor, swallowingFor, freePlace}
-use Rattle.rx_spec.specs.Ticks.{tickAt, age, isDue, dropDue}
-use Rattle.rx_spec.specs.Books.{Book, blank, holds, swallowing, isUnfinished, bufferUnavailable, ignored, noAnswer, refuse, finish, badState, enterFrame}
+use Rattle.rx_place_spec.specs.Place.{place, heldFor, swallowingFor, freePlace}
+use Rattle.rx_place_spec.specs.Ticks.{isDue, dropDue}
+use Rattle.rx_spec.specs.Books.{Book, blank, holds, swallowing, isUnfinished, ignored, noAnswer, refuse, finish, enterFrame}
 use Rattle.rx_spec.specs.Times.{Input, frameInput, loneTick, Timed, timed, InTime, momentsOf, DatedBook, dated, isAccepted, hearTime, hearInput, hearCall, hearCalls, bookOf}
-use Rattle.rx_spec.specs.Reception.{State, state, atTick, isFor, keptIn, sound, joinSound, joined, receive, receiveAll}
-use Rattle.rx_spec.specs.Order.{CallAnswer, nothing, transportRefusal, FrameResult, handleFrame, handleTick, handleInput, runCalls, unfinishedBelow, Fresh, AtMostEight, InOrder, StateRefusal, stateRefused, keep}
-use Rattle.rx_spec.specs.Aging.{Unrefused, lastFrom, momentsTo, FarBefore, EachAccepted, freeCount, AnyState, FirstAt, joinAt, JoinCall}
-use Rattle.rx_spec.specs.OneSource.{Admitted, ByItsBook, TurnedAway}
+use Rattle.rx_place_spec.specs.State.{State, state}
+use Rattle.rx_spec.specs.Reception.{isFor, keptIn, sound, joinSound, joined, receive, receiveAll}
+use Rattle.rx_spec.specs.Order.{callerError, frameResult, runCalls, unfinishedBelow, Fresh, AtMostEight, InOrder, keep, joinAt}
 use Rattle.rx_spec.proofs.Order.{join-order}
-use Rattle.rx_spec.proofs.FreePlaces.{join-aging}
-use Rattle.rx_spec.proofs.OneSource.{join-one-source}
-
--- ---- a place
-
--- from 65,535 to 0 is one tick
-one-tick : age 0 65535 ≡ 1
-one-tick = refl
-
--- exactly 3,000 stays, and 3,001 is dropped: also across the wrap
-stays : isDue 3000 (heldFor 5 8 0) ≡ false
-unfolding isDue
-stays = refl
-
-due : isDue 3001 (heldFor 5 8 0) ≡ true
-unfolding isDue
-due = refl
-
-stays-across : isDue 1464 (heldFor 5 8 64000) ≡ false
-unfolding isDue
-stays-across = refl
-
-due-across : isDue 1465 (heldFor 5 8 64000) ≡ true
-unfolding isDue
-due-across = refl
-
--- what stands in a free place means nothing
-free-place : isDue 9999 (place false 200 9999 1 true) ≡ false
-unfolding isDue
-free-place = refl
 
 -- ---- a frame
 
@@ -81,13 +49,13 @@ not-renewed : receive 0x123 3000 begun elsewhere ≡ joined begun ignored
 unfolding begun elsewhere isDue dropDue isFor joinSound receive kindOfFrame addressed roleOf
 not-renewed = refl
 
--- a state that B7 refuses comes back as it was, with what is old
+-- a state that B7 refuses comes back as it was, with what is old: after a frame, and after a lone tick
 twice : State
 twice = state (heldFor 5 0 0 ∷ heldFor 5 0 0 ∷ []) []
 
-nothing-dropped : receive 0x123 3001 twice middle ≡ joined twice badState
-unfolding twice middle isDue dropDue isFor joinSound receive
-nothing-dropped = refl
+nothing-dropped : (i : Input) → joinAt 0x123 twice [] (timed 3001 i) ≡ frameResult twice [] (callerError tt)
+unfolding twice isFor
+nothing-dropped i = refl
 
 -- ---- a book
 
@@ -98,7 +66,7 @@ book-dropped : hearTime 3001 (dated (holds []) 0) .book ≡ blank
 book-dropped = refl
 
 -- a frame of another tool in between renews nothing, and its time is heard
-first-of-5 : CanFrame
+unfoldable pub first-of-5 : CanFrame
 first-of-5 = canFrame 0x1B123005 []
 
 first-of-6 : CanFrame
@@ -301,7 +269,7 @@ edge-in-time =
     ((omega arith, λ s e. omega arith), ((omega arith, λ s e. omega arith), ((omega arith, λ s e. omega arith), ((omega arith, λ s e. omega arith), ((omega arith, λ s e. omega arith), ((omega arith, λ s e. omega arith), ((omega arith, λ s e. omega arith), ((omega arith, λ s e. omega arith), ((omega arith, λ s e. clash (sym e ∙ ap isUnfinished (all-blank s))), tt)))))))))
 
 -- the statement speaks of them
-order-at-the-edge : InOrder stateRefused keep 0x123 [] edge (runCalls (λ st ds c. handleInput stateRefused keep 0x123 st ds (c .time) (c .input)) junk [] edge)
+order-at-the-edge : InOrder keep 0x123 [] edge (runCalls (joinAt 0x123) junk [] edge)
 unfolding edge eight-begin
 order-at-the-edge =
     join-order 0x123 junk [] edge
@@ -312,95 +280,3 @@ order-at-the-edge =
       in-time = edge-in-time;
       at-most-eight = eight-tools;
     })
-
--- ---- ages, eight free places and the rejection, at the edge of what they assume
-
-abbrev joinOne : State → List (List ℕ) → Timed → FrameResult StateRefusal (List (List ℕ)) (List ℕ)
-joinOne = joinAt 0x123
-
--- 1,000,000 ticks pass with nothing unfinished, and 61,999 with a datagram begun
-paused : List Timed
-paused = timed 7 loneTick ∷ timed 1000007 (frameInput first-of-5) ∷ []
-
-paused-in-time : InTime (momentsTo 1062006 (λ (c : Timed). c) joinOne junk [] paused)
-unfolding paused junk first-of-5 putAt isDue dropDue isFor keptIn joinSound receive handleFrame handleTick kindOfFrame addressed roleOf
-paused-in-time = ((omega arith, λ s e. clash (sym e)), ((omega arith, λ s e. omega arith), tt))
-
-paused-unrefused : Unrefused joinOne junk [] paused
-unfolding paused junk first-of-5 putAt isDue dropDue isFor keptIn joinSound receive handleFrame handleTick kindOfFrame addressed roleOf
-paused-unrefused = (refl, (refl, tt))
-
-ages-at-the-edge : Each (λ (p : Place). p .held ≡ true → lastFrom (λ (c : Timed). c) joinOne (p .source) 0 junk [] paused + age (tickAt 1062006) (p .tick) ≡ 1062006)
-    (runCalls joinOne junk [] paused .state .places)
-ages-at-the-edge = join-aging .ages 0x123 junk [] paused 1062006 fresh-junk paused-in-time paused-unrefused
-
--- eight datagrams are unfinished at the start, the last tick before 0 in each place; a tick comes at 0, and 3,001 ticks later they are gone
-unfoldable pub eight-held : State
-eight-held =
-    state
-    (heldFor 0 72 65535 ∷ heldFor 1 72 65535 ∷ heldFor 2 72 65535 ∷ heldFor 3 72 65535 ∷ heldFor 4 72 65535 ∷ heldFor 5 72 65535 ∷ heldFor 6 72 65535 ∷ heldFor 7 72 65535 ∷ [])
-    (replicate 576 85)
-
-abbrev joinOwn : State → List (List ℕ) → JoinCall → FrameResult StateRefusal (List (List ℕ)) (List ℕ)
-joinOwn st ds k = joinAt (k .alias) st [] (k .call)
-
-one-tick-at-0 : List JoinCall
-one-tick-at-0 = record { alias = 0x123; call = timed 0 loneTick } ∷ []
-
-pub eight-held-any : AnyState eight-held
-unfolding eight-held
-eight-held-any = record { eight = refl; bytes = refl; ticks = (omega arith, (omega arith, (omega arith, (omega arith, (omega arith, (omega arith, (omega arith, (omega arith, tt)))))))) }
-
-held-in-time : InTime (momentsTo 3001 (λ (k : JoinCall). k .call) joinOwn eight-held [] one-tick-at-0)
-unfolding one-tick-at-0 eight-held isDue dropDue isFor handleTick
-held-in-time = ((omega arith, λ s e. omega arith), tt)
-
-held-far : FirstAt (FarBefore 3001) (momentsTo 3001 (λ (k : JoinCall). k .call) joinOwn eight-held [] one-tick-at-0)
-unfolding one-tick-at-0 eight-held isDue dropDue isFor handleTick
-held-far = omega arith
-
-none-accepted : EachAccepted (FarBefore 3001) (λ (k : JoinCall). k .call) joinOwn eight-held [] one-tick-at-0
-unfolding one-tick-at-0
-none-accepted = (λ e. clash (sym e), tt)
-
-free-at-the-edge : freeCount (atTick (tickAt 3001) (runCalls joinOwn eight-held [] one-tick-at-0 .state) .places) ≡ 8
-free-at-the-edge = join-aging .eight-free eight-held [] one-tick-at-0 3001 eight-held-any held-in-time (λ s e. held-far) none-accepted
-
--- a datagram is begun 61,999 ticks after the call before; just 3,000 ticks later a First is refused; and 61,999 ticks later a tick comes
-before-refusal : List Timed
-before-refusal = timed 7 loneTick ∷ timed 62006 (frameInput first-of-5) ∷ []
-
-refused-first : Timed
-unfolding first-of-5
-refused-first = timed 65006 (frameInput first-of-5)
-
-behind-refusal : List Timed
-behind-refusal = timed 127005 loneTick ∷ []
-
-refusal-unrefused : Unrefused joinOne junk [] (before-refusal ++ refused-first ∷ behind-refusal)
-unfolding before-refusal refused-first behind-refusal junk first-of-5 putAt isDue dropDue isFor keptIn joinSound receive handleFrame handleTick kindOfFrame addressed roleOf
-refusal-unrefused = (refl, (refl, (refl, (refl, tt))))
-
-abbrev to-the-refusal : List Timed
-to-the-refusal = before-refusal ++ refused-first ∷ []
-
-never-turned-away : Admitted (λ (c : Timed). c) joinOne 5 junk [] to-the-refusal
-unfolding before-refusal refused-first junk first-of-5 putAt isDue dropDue isFor keptIn joinSound receive handleFrame handleTick kindOfFrame addressed roleOf
-never-turned-away = (λ e. clash (sym e), (λ e. differ, (λ e. other, tt)))
-  where
-    differ : (let a : CallAnswer StateRefusal (List ℕ) = nothing in let b : CallAnswer StateRefusal (List ℕ) = transportRefusal bufferUnavailable in a ≢ b)
-    differ q = absurd (let z : _≡_ {A = ℕ} 0 1 = cc in omega arith)
-
-    other : (let a : CallAnswer StateRefusal (List ℕ) = transportRefusal 0x2040 in let b : CallAnswer StateRefusal (List ℕ) = transportRefusal bufferUnavailable in a ≢ b)
-    other q = let n : _≡_ {A = ℕ} 0x2040 0x2020 = cc in omega arith
-
-source-at-the-edge :
-    let before = runCalls joinOne junk [] to-the-refusal in
-    let r = joinOne (before .state) (before .world) (timed 127005 loneTick) in
-    ByItsBook stateRefused keep 0x123 5 (map (λ (c : Timed). c) to-the-refusal) (timed 127005 loneTick) (before .world) r
-    ⊎ TurnedAway stateRefused keep 0x123 5 (map (λ (c : Timed). c) to-the-refusal) (timed 127005 loneTick) (before .world) r
-unfolding before-refusal refused-first behind-refusal
-source-at-the-edge =
-    join-one-source 0x123 5 junk [] to-the-refusal (timed 127005 loneTick)
-    (record { eight = fresh-junk .eight; bytes = fresh-junk .bytes; nothing-unfinished = fresh-junk .nothing-unfinished 5 })
-    ((omega arith, omega arith), ((omega arith, omega arith), ((omega arith, omega arith), tt))) refusal-unrefused never-turned-away

@@ -14,16 +14,17 @@ use Rattle.buffer.specs.Buffer.{Each}
 use Rattle.can_frame.specs.declared.Role.the-variants.{First}
 use Rattle.can_frame.specs.Frame.{CanFrame, sourceOf, roleOf}
 use Rattle.can_frame.proofs.Laws.{source-small}
-use Rattle.rx_spec.specs.Ticks.{tickAt}
-use Rattle.rx_spec.specs.Books.{Book, blank, isUnfinished, Event, ignored, noAnswer, refuse, finish, badState, Entry, enterFrame}
+use Rattle.rx_place_spec.specs.Ticks.{tickAt}
+use Rattle.rx_spec.specs.Books.{Book, blank, isUnfinished, Event, ignored, noAnswer, refuse, finish, Entry, enterFrame}
 use Rattle.rx_spec.specs.Times.{Input, frameInput, loneTick, Timed, Follows, moment, MayFollow, InTimeAfter, DatedBook, isAccepted, hearTime, hearInput, hearCall, hearCalls, bookOf, momentsAfter, inputEvent, eventsAfter}
-use Rattle.rx_spec.specs.Reception.{State, unfinishedFor, full, atTick}
-use Rattle.rx_spec.specs.Order.{CallAnswer, callerError, ignoredFrame, nothing, transportRefusal, handled, FrameResult, answerEvent, handleInput, CallsResult, answerFirst, runCalls, datagramsOf, answersTo, worldAfter, unfinishedBelow, Fresh, OrderStatement, stateRefused, keep, JoinOrder}
+use Rattle.rx_place_spec.specs.State.{State}
+use Rattle.rx_spec.specs.Reception.{unfinishedFor, full, sound, atTick}
+use Rattle.rx_spec.specs.Order.{CallAnswer, ignoredFrame, nothing, transportRefusal, handled, FrameResult, answerEvent, handleInput, CallsResult, answerFirst, runCalls, datagramsOf, answersTo, worldAfter, unfinishedBelow, Fresh, OrderStatement, keep, joinAt, JoinOrder}
 use Rattle.rx_spec.proofs.PlaceLaws.{Good, good-sound, unfinished-is, blank-none, none-good}
 use Rattle.rx_spec.proofs.CountLaws.{not-full}
 use Rattle.rx_spec.proofs.StepLaws.{Sized, Step, with-room}
 use Rattle.rx_spec.proofs.DropLaws.{AnyTime, AllDated, dated-for, none-dated, caught-up, good-due, sized-due, dated-due, unfinished-due, all-dated}
-use Rattle.rx_spec.proofs.InputLaws.{fresh-sized, taken, input-is, frame-step}
+use Rattle.rx_spec.proofs.InputLaws.{fresh-sized, taken, input-is, frame-step, join-passed}
 
 -- ---- the books
 
@@ -176,17 +177,17 @@ next-call alias past st now inv c m most =
 
 -- ---- the list of calls
 
-module _ {C H W A : Type 0} (heard : C → Timed) (Fine : C → Type 0) (Fit : W → Type 0) (b7 : H) (handle : W → List ℕ → A × W)
+module _ {C H W A : Type 0} (heard : C → Timed) (Fine : C → Type 0) (Fit : W → Type 0) (handle : W → List ℕ → A × W)
     (kept : (w : W) (d : List ℕ) → Fit w → Fit (handle w d .1)) (alias : ℕ) (one : State → W → C → FrameResult H W A)
-    (same : (st : State) (w : W) (c : C) → Fit w → Fine c → one st w c ≡ handleInput b7 handle alias st w (heard c .time) (heard c .input)) where
+    (same : (st : State) (w : W) (c : C) → sound (st .places) ≡ true → Fit w → Fine c → one st w c ≡ handleInput handle alias st w (heard c .time) (heard c .input)) where
   -- what is shown of a list of calls, by what they bring about and the books after them
   record Result (r : CallsResult H W A) (w : W) (es : List Event) (book : ℕ → DatedBook) : Type 0 where
-    answers : r .answers ≡ answersTo b7 handle w es
+    answers : r .answers ≡ answersTo handle w es
     world : r .world ≡ worldAfter handle w (datagramsOf es)
     unfinished : (s : ℕ) → unfinishedFor (r .state) s ≡ book s .book
 
   behind : {r : CallsResult H W A} {w : W} {es : List Event} {book : ℕ → DatedBook} (e : Event) (a : CallAnswer H A) (v : W) → Result r v es book →
-      answersTo b7 handle w (e ∷ es) ≡ a ∷ answersTo b7 handle v es →
+      answersTo handle w (e ∷ es) ≡ a ∷ answersTo handle v es →
       worldAfter handle w (datagramsOf (e ∷ es)) ≡ worldAfter handle v (datagramsOf es) → Result (answerFirst a r) w (e ∷ es) book
   behind e a v ih p q =
       record { answers = ap (λ (l : List (CallAnswer H A)). a ∷ l) (ih .answers) ∙ sym p; world = ih .world ∙ sym q; unfinished = ih .unfinished }
@@ -195,7 +196,7 @@ module _ {C H W A : Type 0} (heard : C → Timed) (Fine : C → Type 0) (Fit : W
   abbrev After : Event → List Event → State → W → List C → (ℕ → DatedBook) → Type 0
   After e es st w cs book =
       Result
-      (answerFirst (answerEvent b7 handle st w e .answer) (runCalls one (answerEvent b7 handle st w e .state) (answerEvent b7 handle st w e .world) cs))
+      (answerFirst (answerEvent {H = H} handle st w e .answer) (runCalls one (answerEvent {H = H} handle st w e .state) (answerEvent {H = H} handle st w e .world) cs))
       w (e ∷ es) book
 
   first-call : (e : Event) (es : List Event) (st : State) (w : W) (cs : List C) (book : ℕ → DatedBook) → Fit w →
@@ -205,13 +206,12 @@ module _ {C H W A : Type 0} (heard : C → Timed) (Fine : C → Type 0) (Fit : W
   first-call (refuse code) es st w cs book t ih = behind (refuse code) (transportRefusal code) w (ih w t) refl refl
   first-call (finish d) es st w cs book t ih =
       behind (finish d) (handled (handle w d .0)) (handle w d .1) (ih (handle w d .1) (kept w d t)) refl refl
-  first-call badState es st w cs book t ih = behind badState (callerError b7) w (ih w t) refl refl
 
   call-is : (st : State) (w : W) (c : C) (e : Event) → Good (st .places) → Fit w → Fine c → taken alias (tickAt (heard c .time)) st (heard c .input) .event ≡ e →
-      one st w c ≡ answerEvent b7 handle (taken alias (tickAt (heard c .time)) st (heard c .input) .state) w e
+      one st w c ≡ answerEvent handle (taken alias (tickAt (heard c .time)) st (heard c .input) .state) w e
   call-is st w c e g t h q =
-      same st w c t h ∙ input-is b7 handle alias st w (heard c .time) (heard c .input) (good-sound (st .places) g)
-      ∙ ap (answerEvent b7 handle (taken alias (tickAt (heard c .time)) st (heard c .input) .state) w) q
+      same st w c (good-sound (st .places) g) t h ∙ input-is H handle alias st w (heard c .time) (heard c .input)
+      ∙ ap (answerEvent handle (taken alias (tickAt (heard c .time)) st (heard c .input) .state) w) q
 
   all : (cs : List C) (past : List Timed) (now : ℕ) (st : State) (w : W) → Agrees st now (bookOf alias past) → Fit w → Each Fine cs → InTimeAfter now (momentsAfter alias past (map heard cs)) →
       ((n : ℕ) → unfinishedBelow 4096 (λ x. bookOf alias (past ++ take n (map heard cs)) x .book) ≤ 8) →
@@ -244,7 +244,7 @@ module _ {C H W A : Type 0} (heard : C → Timed) (Fine : C → Type 0) (Fit : W
       }
 
   -- calls that give what `handleInput` gives keep the order
-  pub order : OrderStatement heard Fine Fit b7 handle alias one
+  pub order : OrderStatement heard Fine Fit handle alias one
   order st w [] a =
       let r = all [] [] 0 st w (started st 0 (a .fresh)) (a .fit) (a .fine) tt (λ n. let m = a .at-most-eight n in omega (arith, m)) in
       record { answers = r .answers; world = r .world; unfinished = r .unfinished }
@@ -257,5 +257,5 @@ module _ {C H W A : Type 0} (heard : C → Timed) (Fine : C → Type 0) (Fit : W
 
 pub join-order : JoinOrder
 join-order alias =
-    order (λ (c : Timed). c) (λ (c : Timed). Unit {0}) (λ (ds : List (List ℕ)). Unit {0}) stateRefused keep (λ ds d u. tt) alias
-    (λ st ds c. handleInput stateRefused keep alias st ds (c .time) (c .input)) (λ st ds c u v. refl)
+    order (λ (c : Timed). c) (λ (c : Timed). Unit {0}) (λ (ds : List (List ℕ)). Unit {0}) keep (λ ds d u. tt) alias (joinAt alias)
+    (λ st ds c ok u v. join-passed alias st ds c ok)

@@ -14,7 +14,7 @@ use borrow.Author.Tests.{eqb-true, eq-eqb, ne-eqb, le-leb, leb-true, not-true}
 use Rattle.buffer.specs.Buffer.{putAt}
 use Rattle.buffer.proofs.Choice.{clash, by-test, and-left, and-right}
 use Rattle.buffer.proofs.Laws.{take-before, drop-behind, drop-put}
-use Rattle.rx_spec.specs.Place.{Place, freePlace}
+use Rattle.rx_place_spec.specs.Place.{Place, freePlace}
 use Rattle.rx_spec.specs.Books.{Book, blank, holds, swallowing, isUnfinished}
 use Rattle.rx_spec.specs.Reception.{isFor, keptIn, unfinishedIn, placeOf, freeIn, hasPlace, full, soundBeside, sound}
 

@@ -17,10 +17,11 @@ use Rattle.can_frame.specs.declared.Role.{Role}
 use Rattle.can_frame.specs.declared.Role.the-variants.{Ignored, Single, First, Middle, Last}
 use Rattle.can_frame.specs.Frame.{CanFrame, sourceOf, roleOf}
 use Rattle.can_frame.proofs.Laws.{role-short, source-small}
-use Rattle.rx_spec.specs.Place.{Place, heldFor, swallowingFor, freePlace}
+use Rattle.rx_place_spec.specs.Place.{Place, heldFor, swallowingFor, freePlace}
 use Rattle.rx_spec.specs.Books.{Book, blank, holds, swallowing, isUnfinished, Event, ignored, noAnswer, refuse, finish, outOfOrder, temporaryError, bufferUnavailable, Entry, entry, fits, bookRule}
 use Rattle.rx_spec.specs.Times.{isAccepted}
-use Rattle.rx_spec.specs.Reception.{State, state, isFor, keptIn, unfinishedIn, unfinishedFor, placeOf, freeIn, hasPlace, full, stored, sizeAt, dropped, opened, appended, closed, swallowed, keptAfterRefusal, Joined, joined, joinRule, joinSound}
+use Rattle.rx_place_spec.specs.State.{State, state}
+use Rattle.rx_spec.specs.Reception.{isFor, keptIn, unfinishedIn, unfinishedFor, placeOf, freeIn, hasPlace, full, stored, sizeAt, dropped, opened, appended, closed, swallowed, keptAfterRefusal, Joined, joined, joinRule, joinSound}
 use Rattle.rx_spec.proofs.TurnedLaws.{Turned, AllTurned, same-turned, set-turned}
 use Rattle.rx_spec.proofs.PlaceLaws.{isFor-self, isFor-held, isFor-source, isFor-free, isFor-not, Good, good-short, kept-bytes, kept-swallowing, holds-not-swallowing, unfinished-is, blank-of, blank-none, some-place, none-take, none-drop, none-left, PlaceOf, place-found, place-last, Free, free, Fits, fits-else, good-set, unfinished-else, unfinished-own}
 

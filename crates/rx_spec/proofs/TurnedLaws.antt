@@ -7,7 +7,7 @@ use mathlib.Core.Bool.{Bool, true, false}
 use mathlib.Core.List.{List, [], _∷_}
 use lib.ListN.{take, drop, getD, set}
 use Rattle.buffer.proofs.Choice.{clash}
-use Rattle.rx_spec.specs.Place.{Place, freePlace}
+use Rattle.rx_place_spec.specs.Place.{Place, freePlace}
 use Rattle.rx_spec.specs.Reception.{isFor, hasPlace}
 use Rattle.rx_spec.proofs.PlaceLaws.{none-head, none-tail}
 

@@ -23,14 +23,12 @@ isUnfinished (holds b) = true
 isUnfinished swallowing = true
 
 -- What a frame brings about: "answered with nothing" where it is ignored; "No answer" where it is joined, and where it
--- is swallowed; "transport refusal" with its code; "finishes a datagram". The last is for a reception state that B7
--- refuses, and no book gives it.
+-- is swallowed; "transport refusal" with its code; "finishes a datagram".
 pub data Event : Type 0 where
   ignored : Event
   noAnswer : Event
   refuse : ℕ → Event
   finish : List ℕ → Event
-  badState : Event
 
 -- The codes of the transport refusals. "Any other: transport refusal 0x2040"
 abbrev pub outOfOrder : ℕ

@@ -4,15 +4,16 @@
 -- for it, a reply buffer for one.
 use Prim.Native.Nat.{ℕ, zero, suc, _+_, _≤_}
 use mathlib.Core.Path.{_≡_}
-use mathlib.Core.Bool.{true, cond}
+use mathlib.Core.Bool.{Bool, true, false, cond}
 use mathlib.Core.List.{List, [], _∷_, _++_, map}
 use lib.ListN.{length, take}
 use Rattle.buffer.specs.Buffer.{Each}
 use Rattle.can_frame.specs.Frame.{CanFrame}
-use Rattle.rx_spec.specs.Ticks.{tickAt}
-use Rattle.rx_spec.specs.Books.{Book, blank, isUnfinished, Event, ignored, noAnswer, refuse, finish, badState}
+use Rattle.rx_place_spec.specs.Ticks.{tickAt}
+use Rattle.rx_spec.specs.Books.{Book, blank, isUnfinished, Event, ignored, noAnswer, refuse, finish}
 use Rattle.rx_spec.specs.Times.{Input, frameInput, loneTick, Timed, InTime, momentsOf, bookOf, eventsOf}
-use Rattle.rx_spec.specs.Reception.{State, sound, atTick, receive, unfinishedFor}
+use Rattle.rx_place_spec.specs.State.{State}
+use Rattle.rx_spec.specs.Reception.{sound, atTick, receive, unfinishedFor}
 
 -- ---- a call handled
 
@@ -34,27 +35,25 @@ pub record FrameResult (H W A : Type 0) : Type 0 where
 abbrev pub frameResult : {H W A : Type 0} → State → W → CallAnswer H A → FrameResult H W A
 frameResult st w a = record { state = st; world = w; answer = a }
 
--- What a frame brings about, answered: a finished datagram "is handled", and a state that B7 refuses gets the
--- error b7.
-abbrev pub answerEvent : {H W A : Type 0} → H → (W → List ℕ → A × W) → State → W → Event → FrameResult H W A
-answerEvent b7 handle st w ignored = frameResult st w ignoredFrame
-answerEvent b7 handle st w noAnswer = frameResult st w nothing
-answerEvent b7 handle st w (refuse code) = frameResult st w (transportRefusal code)
-answerEvent b7 handle st w (finish d) = let x = handle w d in frameResult st (x .1) (handled (x .0))
-answerEvent b7 handle st w badState = frameResult st w (callerError b7)
+-- What a frame brings about, answered: a finished datagram "is handled".
+abbrev pub answerEvent : {H W A : Type 0} → (W → List ℕ → A × W) → State → W → Event → FrameResult H W A
+answerEvent handle st w ignored = frameResult st w ignoredFrame
+answerEvent handle st w noAnswer = frameResult st w nothing
+answerEvent handle st w (refuse code) = frameResult st w (transportRefusal code)
+answerEvent handle st w (finish d) = let x = handle w d in frameResult st (x .1) (handled (x .0))
 
--- A frame at the tick `now`.
-unfoldable pub handleFrame : {H W A : Type 0} → H → (W → List ℕ → A × W) → ℕ → ℕ → State → W → CanFrame → FrameResult H W A
-handleFrame b7 handle alias now st w f = let j = receive alias now st f in answerEvent b7 handle (j .state) w (j .event)
+-- A frame at the tick `now`, and a tick that comes alone, at which what is due "is dropped without an answer": where
+-- the call has no error of the caller, which is asked before.
+unfoldable pub handleFrame : {H W A : Type 0} → (W → List ℕ → A × W) → ℕ → ℕ → State → W → CanFrame → FrameResult H W A
+handleFrame handle alias now st w f = let j = receive alias now st f in answerEvent handle (j .state) w (j .event)
 
--- "one call brings a tick alone, testing only B7": what is due "is dropped without an answer".
-unfoldable pub handleTick : {H W A : Type 0} → H → ℕ → State → W → FrameResult H W A
-handleTick b7 now st w = cond (sound (st .places)) (frameResult (atTick now st) w nothing) (frameResult st w (callerError b7))
+unfoldable pub handleTick : {H W A : Type 0} → ℕ → State → W → FrameResult H W A
+handleTick now st w = frameResult (atTick now st) w nothing
 
 -- What a call brings at a time, which comes to the board as a tick.
-abbrev pub handleInput : {H W A : Type 0} → H → (W → List ℕ → A × W) → ℕ → State → W → ℕ → Input → FrameResult H W A
-handleInput b7 handle alias st w t (frameInput f) = handleFrame b7 handle alias (tickAt t) st w f
-handleInput b7 handle alias st w t loneTick = handleTick b7 (tickAt t) st w
+abbrev pub handleInput : {H W A : Type 0} → (W → List ℕ → A × W) → ℕ → State → W → ℕ → Input → FrameResult H W A
+handleInput handle alias st w t (frameInput f) = handleFrame handle alias (tickAt t) st w f
+handleInput handle alias st w t loneTick = handleTick (tickAt t) st w
 
 -- ---- a list of calls
 
@@ -72,6 +71,32 @@ abbrev pub runCalls : {C H W A : Type 0} → (State → W → C → FrameResult 
 runCalls one st w [] = record { state = st; world = w; answers = [] }
 runCalls one st w (c ∷ cs) = let r = one st w c in answerFirst (r .answer) (runCalls one (r .state) (r .world) cs)
 
+-- ---- calls that are accepted, and calls that are not refused
+
+-- Whether the call is refused because of an error of the caller, by its answer.
+abbrev pub isCallerError : {H A : Type 0} → CallAnswer H A → Bool
+isCallerError (callerError error) = true
+isCallerError ignoredFrame = false
+isCallerError nothing = false
+isCallerError (transportRefusal code) = false
+isCallerError (handled a) = false
+
+-- Whether a call brings a frame that is accepted: one that is joined or swallowed, so that it has no answer, or
+-- finishes a datagram. An ignored frame, a transport refusal and an error of the caller accept nothing, and a lone tick
+-- brings no frame.
+abbrev pub acceptsFrame : {H A : Type 0} → Input → CallAnswer H A → Bool
+acceptsFrame loneTick a = false
+acceptsFrame (frameInput f) (callerError error) = false
+acceptsFrame (frameInput f) ignoredFrame = false
+acceptsFrame (frameInput f) nothing = true
+acceptsFrame (frameInput f) (transportRefusal code) = false
+acceptsFrame (frameInput f) (handled a) = true
+
+-- The calls cs, each made on what the one before left, are such that "no house number refuses" them.
+abbrev pub Unrefused : {C H W A : Type 0} → (State → W → C → FrameResult H W A) → State → W → List C → Type 0
+Unrefused one st w [] = Unit {0}
+Unrefused one st w (c ∷ cs) = let r = one st w c in (isCallerError (r .answer) ≡ false) × Unrefused one (r .state) (r .world) cs
+
 -- ---- what the books call for
 
 -- The finished datagrams, in the order of their last frames.
@@ -81,16 +106,14 @@ datagramsOf (ignored ∷ es) = datagramsOf es
 datagramsOf (noAnswer ∷ es) = datagramsOf es
 datagramsOf (refuse code ∷ es) = datagramsOf es
 datagramsOf (finish d ∷ es) = d ∷ datagramsOf es
-datagramsOf (badState ∷ es) = datagramsOf es
 
--- The answers: each finished datagram "handled whole" on what the earlier ones left. No book gives `badState`.
-abbrev pub answersTo : {H W A : Type 0} → H → (W → List ℕ → A × W) → W → List Event → List (CallAnswer H A)
-answersTo b7 handle w [] = []
-answersTo b7 handle w (ignored ∷ es) = ignoredFrame ∷ answersTo b7 handle w es
-answersTo b7 handle w (noAnswer ∷ es) = nothing ∷ answersTo b7 handle w es
-answersTo b7 handle w (refuse code ∷ es) = transportRefusal code ∷ answersTo b7 handle w es
-answersTo b7 handle w (finish d ∷ es) = let x = handle w d in handled (x .0) ∷ answersTo b7 handle (x .1) es
-answersTo b7 handle w (badState ∷ es) = callerError b7 ∷ answersTo b7 handle w es
+-- The answers: each finished datagram "handled whole" on what the earlier ones left.
+abbrev pub answersTo : {H W A : Type 0} → (W → List ℕ → A × W) → W → List Event → List (CallAnswer H A)
+answersTo handle w [] = []
+answersTo handle w (ignored ∷ es) = ignoredFrame ∷ answersTo handle w es
+answersTo handle w (noAnswer ∷ es) = nothing ∷ answersTo handle w es
+answersTo handle w (refuse code ∷ es) = transportRefusal code ∷ answersTo handle w es
+answersTo handle w (finish d ∷ es) = let x = handle w d in handled (x .0) ∷ answersTo handle (x .1) es
 
 -- What the datagrams leave, handled one after the other.
 abbrev pub worldAfter : {W A : Type 0} → (W → List ℕ → A × W) → W → List (List ℕ) → W
@@ -119,8 +142,8 @@ AtMostEight alias cs = (n : ℕ) → unfinishedBelow 4096 (λ s. bookOf alias (t
 
 -- The calls, made one after the other, give the answers that the books call for, by what the calls bring and when; they
 -- leave what the finished datagrams leave; and "what the state has" for each source is what its book holds.
-pub record InOrder {H W A : Type 0} (b7 : H) (handle : W → List ℕ → A × W) (alias : ℕ) (w : W) (cs : List Timed) (r : CallsResult H W A) : Type 0 where
-  pub answers : r .answers ≡ answersTo b7 handle w (eventsOf alias cs)
+pub record InOrder {H W A : Type 0} (handle : W → List ℕ → A × W) (alias : ℕ) (w : W) (cs : List Timed) (r : CallsResult H W A) : Type 0 where
+  pub answers : r .answers ≡ answersTo handle w (eventsOf alias cs)
   pub world : r .world ≡ worldAfter handle w (datagramsOf (eventsOf alias cs))
   pub unfinished : (s : ℕ) → unfinishedFor (r .state) s ≡ bookOf alias cs s .book
 
@@ -141,22 +164,25 @@ pub record Orderly {C W : Type 0} (heard : C → Timed) (Fine : C → Type 0) (F
 
 -- The order statement of a call `one`.
 abbrev pub OrderStatement :
-    {C H W A : Type 0} → (C → Timed) → (C → Type 0) → (W → Type 0) → H → (W → List ℕ → A × W) → ℕ
+    {C H W A : Type 0} → (C → Timed) → (C → Type 0) → (W → Type 0) → (W → List ℕ → A × W) → ℕ
     → (State → W → C → FrameResult H W A) → Type 0
-OrderStatement {C} {H} {W} heard Fine Fit b7 handle alias one =
+OrderStatement {C} {H} {W} heard Fine Fit handle alias one =
     (st : State) (w : W) (cs : List C) → Orderly heard Fine Fit alias st w cs
-    → InOrder b7 handle alias w (map heard cs) (runCalls one st w cs)
+    → InOrder handle alias w (map heard cs) (runCalls one st w cs)
 
--- The order statement of joining by itself, with an error of its own for B7 and each finished datagram kept as it
--- is: what is handed on, and in which order.
-pub data StateRefusal : Type 0 where
-  stateRefused : StateRefusal
+-- ---- joining by itself
 
+-- Each finished datagram is kept as it is: what is handed on, and in which order.
 abbrev pub keep : List (List ℕ) → List ℕ → List ℕ × List (List ℕ)
 keep ds d = (d, ds ++ d ∷ [])
 
+-- A call of joining at an alias. Its one error is B7, "checked first at each call": "The state comes back as it was."
+abbrev pub joinAt : ℕ → State → List (List ℕ) → Timed → FrameResult (Unit {0}) (List (List ℕ)) (List ℕ)
+joinAt alias st ds c =
+    cond (sound (st .places)) (handleInput keep alias st ds (c .time) (c .input)) (frameResult st ds (callerError tt))
+
+-- The order statement of these calls.
 abbrev pub JoinOrder : Type 0
 JoinOrder =
     (alias : ℕ)
-    → OrderStatement (λ (c : Timed). c) (λ (c : Timed). Unit {0}) (λ (ds : List (List ℕ)). Unit {0}) stateRefused keep alias
-    (λ st ds c. handleInput stateRefused keep alias st ds (c .time) (c .input))
+    → OrderStatement (λ (c : Timed). c) (λ (c : Timed). Unit {0}) (λ (ds : List (List ℕ)). Unit {0}) keep alias (joinAt alias)

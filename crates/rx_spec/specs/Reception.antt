@@ -9,24 +9,12 @@ use Rattle.buffer.specs.Buffer.{putAt}
 use Rattle.can_frame.specs.declared.Role.{Role}
 use Rattle.can_frame.specs.declared.Role.the-variants.{Ignored, Single, First, Middle, Last}
 use Rattle.can_frame.specs.Frame.{CanFrame, sourceOf, roleOf}
-use Rattle.rx_spec.specs.Place.{Place, heldFor, swallowingFor, freePlace}
-use Rattle.rx_spec.specs.Ticks.{dropDue}
-use Rattle.rx_spec.specs.Books.{Book, blank, holds, swallowing, Event, ignored, noAnswer, refuse, finish, badState, outOfOrder, temporaryError, bufferUnavailable, fits}
+use Rattle.rx_place_spec.specs.Place.{Place, heldFor, swallowingFor, freePlace}
+use Rattle.rx_place_spec.specs.Ticks.{dropDue}
+use Rattle.rx_place_spec.specs.State.{State, state}
+use Rattle.rx_spec.specs.Books.{Book, blank, holds, swallowing, Event, ignored, noAnswer, refuse, finish, outOfOrder, temporaryError, bufferUnavailable, fits}
 
 -- ---- the state
-
--- Eight places, and the pool that holds their bytes, 72 for each: "Up to eight sources may each have one unfinished
--- datagram".
-pub record State : Type 0 where
-  pub places : List Place
-  pub pool : List ℕ
-
-abbrev pub state : List Place → List ℕ → State
-state ps pool = record { places = ps; pool = pool }
-
--- The places at the start.
-abbrev pub emptyPlaces : List Place
-emptyPlaces = replicate 8 freePlace
 
 -- "A tool is known by its source alias alone."
 unfoldable pub isFor : ℕ → Place → Bool
@@ -167,17 +155,16 @@ joinRule Last s d now st swallowing = joined (dropped (placeOf s (st .places)) s
 unfoldable pub joinSound : Role → ℕ → List ℕ → ℕ → State → Joined
 joinSound role s d now st = joinRule role s d now st (unfinishedFor st s)
 
--- A frame received at the tick `now`. B7 comes first, "checked first at each call": "The state comes back as it was."
--- Then what is due is dropped, and then the frame is looked at.
+-- A frame received at the tick `now`, by a state that B7 lets pass: the caller's errors are asked before, and none is
+-- asked here. What is due is dropped, and then the frame is looked at.
 unfoldable pub receive : ℕ → ℕ → State → CanFrame → Joined
 receive alias now st f =
-    cond (sound (st .places))
-    (joinSound (roleOf alias (f .header) (length (f .payload))) (sourceOf (f .header)) (f .payload) now (atTick now st))
-    (joined st badState)
+    joinSound (roleOf alias (f .header) (length (f .payload))) (sourceOf (f .header)) (f .payload) now (atTick now st)
 
 -- Frames joined one after the other, each at its tick and to the state that the one before left: what each brings
--- about.
+-- about. A state that B7 refuses receives none.
 abbrev pub receiveAll : ℕ → State → List ℕ → List CanFrame → List Event
 receiveAll alias st [] fs = []
 receiveAll alias st (now ∷ ticks) [] = []
-receiveAll alias st (now ∷ ticks) (f ∷ fs) = let j = receive alias now st f in j .event ∷ receiveAll alias (j .state) ticks fs
+receiveAll alias st (now ∷ ticks) (f ∷ fs) =
+    cond (sound (st .places)) (let j = receive alias now st f in j .event ∷ receiveAll alias (j .state) ticks fs) []

@@ -6,7 +6,7 @@ use mathlib.Core.Bool.{Bool, true, false, cond}
 use mathlib.Core.List.{List, [], _∷_, _++_}
 use lib.Dec.{ltb, eqb}
 use Rattle.can_frame.specs.Frame.{CanFrame, sourceOf}
-use Rattle.rx_spec.specs.Books.{Book, blank, isUnfinished, Event, ignored, noAnswer, refuse, finish, badState, enterFrame}
+use Rattle.rx_spec.specs.Books.{Book, blank, isUnfinished, Event, ignored, noAnswer, refuse, finish, enterFrame}
 
 -- ---- calls
 
@@ -89,7 +89,6 @@ isAccepted ignored = false
 isAccepted noAnswer = true
 isAccepted (refuse code) = false
 isAccepted (finish d) = true
-isAccepted badState = false
 
 -- "an unfinished datagram whose source's last accepted frame is more than 3,000 ticks back is dropped without an
 -- answer; exactly 3,000 stays": the book at the time t. One that is being swallowed grows old as well.

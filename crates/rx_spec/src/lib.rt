@@ -6,11 +6,10 @@ ghost use mathlib.Core.List.{List};
 ghost use lib.ListN.{length};
 ghost use Prim.Native.Nat.{ℕ};
 ghost use Rattle.rx_spec.specs.Books.{blank};
-ghost use Rattle.rx_spec.specs.Reception.{emptyPlaces, unfinishedFor};
-ghost use Rattle.rx_spec.specs.PlaceBytes.{placesIn, stateIn, startBytes};
+ghost use Rattle.rx_place_spec.specs.State.{emptyPlaces};
+ghost use Rattle.rx_spec.specs.Reception.{unfinishedFor};
+ghost use Rattle.rx_place_spec.specs.PlaceBytes.{placesIn, stateIn, startBytes};
 ghost use Rattle.rx_spec.specs.Order.{Fresh, JoinOrder};
-ghost use Rattle.rx_spec.specs.Aging.{JoinAging};
-ghost use Rattle.rx_spec.specs.OneSource.{JoinOneSource, OneRejection};
 
 // The places at the start: nobody has an unfinished datagram, whatever the pool holds, so that the order statement
 // starts from there. From there frames are joined in their order.
@@ -20,9 +19,6 @@ pub fn new_places() -> [u8; 64]
     ensures empty { λ r. ⌜ ((pool : List ℕ) (s : ℕ) → unfinishedFor (stateIn r pool) s ≡ blank) ⌝ }
     ensures fresh { λ r. ⌜ ((pool : List ℕ) → length pool ≡ 576 → Fresh (stateIn r pool)) ⌝ }
     ensures order { λ _. ⌜ JoinOrder ⌝ }
-    ensures aging { λ _. ⌜ JoinAging ⌝ }
-    ensures source { λ _. ⌜ JoinOneSource ⌝ }
-    ensures rejection { λ _. ⌜ OneRejection ⌝ }
 {
     [0u8; 64]
 }

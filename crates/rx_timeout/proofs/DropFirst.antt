@@ -8,10 +8,10 @@ use native.Mathlib.Numerals.{add-one}
 use lib.ListN.{length, drop, getD, set}
 use Rattle.buffer.specs.Buffer.{placed}
 use Rattle.buffer.proofs.Choice.{clash}
-use Rattle.rx_spec.specs.Place.{Place, freePlace}
-use Rattle.rx_spec.specs.Ticks.{isDue, afterTick, dropDue}
-use Rattle.rx_spec.specs.PlaceBytes.{placeIn, placesFrom, placesIn, placeBytes, renewed}
-use Rattle.rx_spec.proofs.ByteLaws.{places-length, renewed-same, same-refl, differ-held, Changed, changed-places, changed-bytes, NotBack, Covers, renewed-twice, covers-where}
+use Rattle.rx_place_spec.specs.Place.{Place, freePlace}
+use Rattle.rx_place_spec.specs.Ticks.{isDue, afterTick, dropDue}
+use Rattle.rx_place_spec.specs.PlaceBytes.{placeIn, placesFrom, placesIn, placeBytes, renewed}
+use Rattle.rx_place_spec.proofs.ByteLaws.{places-length, renewed-same, same-refl, differ-held, Changed, changed-places, changed-bytes, NotBack, Covers, renewed-twice, covers-where}
 use Rattle.rx_spec.proofs.DropLaws.{due-held}
 
 -- ---- one place

@@ -6,9 +6,9 @@ ghost use Prim.Native.Nat.{_*_};
 ghost use lib.ListN.{getD};
 ghost use Rattle.buffer.specs.Lent.{before, after};
 ghost use Rattle.buffer.specs.Buffer.{placed};
-ghost use Rattle.rx_spec.specs.Place.{freePlace};
-ghost use Rattle.rx_spec.specs.Ticks.{age, isDue, dropDue};
-ghost use Rattle.rx_spec.specs.PlaceBytes.{placesIn, placeBytes, renewed};
+ghost use Rattle.rx_place_spec.specs.Place.{freePlace};
+ghost use Rattle.rx_place_spec.specs.Ticks.{age, isDue, dropDue};
+ghost use Rattle.rx_place_spec.specs.PlaceBytes.{placesIn, placeBytes, renewed};
 
 const PLACES: usize = 8;
 

@@ -4,7 +4,6 @@ use Prim.Native.Nat.{ℕ, _+_, _-_, _*_, _/_, _%_, _≤_}
 use mathlib.Core.Path.{_≡_, refl, sym}
 use mathlib.Core.Bool.{true, false, cond}
 use mathlib.Core.List.{List, [], _∷_, _++_}
-use mathlib.Core.Option.{some}
 use native.Mathlib.Omega.{arith}
 use lib.Dec.{eqb}
 use lib.ListN.{length, length-take, length-drop}
@@ -20,20 +19,21 @@ use Rattle.tool_read_ack.specs.Receipt.{readReceived, readRejection}
 use Rattle.tool_read_ack.specs.declared.ReceivedIn.the-variants.{Received}
 use Rattle.tool_read_ack.specs.declared.RejectionIn.the-variants.{Rejection}
 use Rattle.cmd_fields.specs.Commands as asked
-use Rattle.cmd_fields.specs.Commands.{Request}
+use Rattle.cmd_fields.specs.Commands.{Request, Names}
 use Rattle.cmd_fields.specs.declared.Form.{Form}
 use Rattle.cmd_decode.specs.Decoding.{request}
 use Rattle.cmd_decode.proofs.Laws.{Allowed, allowed}
 use Rattle.space_table.specs.declared.Space.{Space}
-use Rattle.space_lookup.specs.Description.{sizeOf, storeOf, lowestNumber}
+use Rattle.space_lookup.specs.Description.{sizeOf, storeOf}
 use Rattle.space_lookup.specs.declared.Found.{Found}
 use Rattle.space_lookup.specs.declared.Found.the-variants.{Described, Empty, Unknown}
 use Rattle.call_error.specs.CallErrors.{descriptionCheck}
 use Rattle.call_error.specs.declared.Checked.the-variants.{Passed}
 use Rattle.call_error.proofs.Laws.{Fine, good-find}
-use Rattle.reply_head.specs.Head.{replyHead}
 use Rattle.exec_lock.specs.Lock.{testAndSet, lockAfter, allZero}
-use Rattle.reply_datagram.specs.Inquiry.{accessFlag, informationReply}
+use Rattle.reply_spec.specs.ReplyForms.{noText, noAddress, lowestAddress, Reply, information, replyBytes, bit1, WellFormed}
+use Rattle.reply_datagram.specs.Replies.{readReply, failedRead, failedWrite, lockReply, inBytes}
+use Rattle.reply_datagram.specs.Inquiry.{optionsReply, accessFlag, absentReply, informationReply}
 use Rattle.space_reach.specs.Reach.{access}
 use Rattle.space_reach.specs.declared.Access.{Access}
 use Rattle.space_reach.specs.declared.Access.the-variants.{Fails, Reaches}
@@ -45,14 +45,13 @@ use Rattle.exec_spec.specs.Access.{bytesRead, readResult, writeResult}
 use Rattle.exec_spec.specs.Handling.{Short}
 use Rattle.exec_spec.specs.Performing.{Fixed, Contents, foundIn, perform}
 use Rattle.exec_spec.proofs.HandlingLaws.{perform-short}
-use Rattle.tool_read_spec.specs.ReplyForms.{noText, lowest, noAddress, lowestAddress, Reply, read, readFailure, writeFailure, options, information, locked, front, replyBytes, Names, bit1, WellFormed, IsReply}
 use Rattle.tool_read_spec.proofs.CompleteLaws.{complete}
-use Rattle.tool_meets_board_spec.specs.Meeting.{sentForRead, sentForWrite, sentForSpace, replySent, ReadAs, RepliesRead, contentOf, Acknowledges, HalvesMeet}
+use Rattle.tool_meets_board_spec.specs.Meeting.{ReadBack, RepliesRead, contentOf, Acknowledges, HalvesMeet}
 use Rattle.tool_meets_board_spec.proofs.NamingLaws.{Named, named}
 
 -- a reply of the language is read as it is
-is-read : (y : Reply) (reply : List ℕ) → IsReply reply y → ReadAs (receivedOkReply reply) (some y)
-is-read y reply p = (complete reply y p, λ e. let z : _≡_ {A = ℕ} 0 1 = cc in omega arith)
+is-read : (y : Reply) → WellFormed y → length (replyBytes y) ≤ 72 → ReadBack (receivedOkReply y)
+is-read y w short = complete (replyBytes y) y (refl, w, short)
 
 -- ---- reads
 
@@ -66,14 +65,13 @@ some-bytes flash memory s address count f l h n =
     rw (length-take, length-drop, length-take, length-drop) (omega (arith, room))
 
 module _ (flash memory : List ℕ) (form : Form) (space address count : ℕ) (n : Names form space) (few : count ≤ 64) where
-  read-read : (a : Access) → Short (readResult flash memory form space address count a) →
-      ((s : Space) → a ≡ Reaches s → 1 ≤ length (bytesRead flash memory s address count)) →
-      ReadAs (readResult flash memory form space address count a) (sentForRead flash memory form space address count a)
-  unfolding readResult replyHead front replyBytes WellFormed
-  read-read (Fails code) h b = is-read (readFailure form space address code noText) _ (refl, (n, tt, omega arith), h)
+  read-read : (a : Access) → Short (inBytes (readResult flash memory form space address count a)) →
+      ((s : Space) → a ≡ Reaches s → 1 ≤ length (bytesRead flash memory s address count)) → ReadBack (readResult flash memory form space address count a)
+  unfolding readResult WellFormed
+  read-read (Fails code) h b = is-read (failedRead form space address code) (n, tt, omega arith) h
   read-read (Reaches s) h b =
       let most : length (bytesRead flash memory s address count) ≤ 64 = rw length-take (omega arith) in
-      is-read (read form space address (bytesRead flash memory s address count)) _ (refl, (n, b s refl, most), h)
+      is-read (readReply form space address (bytesRead flash memory s address count)) (n, b s refl, most) h
 
 -- what a read reaches
 read-some : (x : Fixed) (c : Contents) (space address count : ℕ) → descriptionCheck (x .alias) (x .spaces) (length (x .flash)) (length (c .memory)) ≡ Passed → 1 ≤ count →
@@ -85,11 +83,10 @@ read-some x c space address count g n s e =
 
 -- ---- writes
 
-write-read : (form : Form) (space address n : ℕ) → Names form space → (a : Access) → Short (writeResult form space address n a) →
-    ReadAs (writeResult form space address n a) (sentForWrite form space address a)
-unfolding writeResult replyHead front replyBytes WellFormed
-write-read form space address n m (Fails code) h = is-read (writeFailure form space address code noText) _ (refl, (m, tt, omega arith), h)
-write-read form space address n m (Reaches s) h = refl
+write-read : (form : Form) (space address n : ℕ) → Names form space → (a : Access) → Short (inBytes (writeResult form space address n a)) → ReadBack (writeResult form space address n a)
+unfolding writeResult WellFormed
+write-read form space address n m (Fails code) h = is-read (failedWrite form space address code) (m, tt, omega arith) h
+write-read form space address n m (Reaches s) h = tt
 
 -- ---- space information
 
@@ -100,13 +97,13 @@ flag-alone s = cond-elim (λ n. bit1 n ≡ 0) (s .«read_only») {a = 1} {b = 0}
 flag-with-lowest : (s : Space) → bit1 (accessFlag s + 2) ≡ 1
 flag-with-lowest s = cond-elim (λ n. bit1 (n + 2) ≡ 1) (s .«read_only») {a = 1} {b = 0} (λ _. refl) (λ _. refl)
 
-information-read : (space : ℕ) (found : Found) → length (informationReply space found) ≤ 72 → ReadAs (receivedOkReply (informationReply space found)) (some (sentForSpace space found))
-unfolding informationReply replyBytes WellFormed
+information-read : (space : ℕ) (found : Found) → length (replyBytes (informationReply space found)) ≤ 72 → ReadBack (receivedOkReply (informationReply space found))
+unfolding informationReply WellFormed
 information-read space (Described s) h = by-test (eqb (s .lowest) 0)
-    (λ z. let k = rw z at h in rw z (is-read (information true space (s .highest) (accessFlag s) noAddress noText) _ (refl, (flag-alone s, tt), k)))
-    (λ z. let k = rw z at h in rw z (is-read (information true space (s .highest) (accessFlag s + 2) (lowestAddress (s .lowest)) noText) _ (refl, (flag-with-lowest s, tt), k)))
-information-read space (Empty readOnly) h = is-read (information false space 0 0 noAddress noText) _ (refl, (refl, tt), h)
-information-read space Unknown h = is-read (information false space 0 0 noAddress noText) _ (refl, (refl, tt), h)
+    (λ z. let k = rw z at h in rw z (is-read (information true space (s .highest) (accessFlag s) noAddress noText) (flag-alone s, tt) k))
+    (λ z. let k = rw z at h in rw z (is-read (information true space (s .highest) (accessFlag s + 2) (lowestAddress (s .lowest)) noText) (flag-with-lowest s, tt) k))
+information-read space (Empty readOnly) h = is-read (absentReply space) (refl, tt) h
+information-read space Unknown h = is-read (absentReply space) (refl, tt) h
 
 -- ---- the lock
 
@@ -120,9 +117,9 @@ lock-six held id h k =
 
 -- ---- every request
 
-module _ (x : Fixed) (c : Contents) (form : Form) (g : descriptionCheck (x .alias) (x .spaces) (length (x .flash)) (length (c .memory)) ≡ Passed) (six : length (c .lock) ≡ 6) where
-  performed-read : (q : Request) → Allowed q → Named form q → ReadAs (perform x c form q .result) (replySent x c form q)
-  unfolding perform replySent replyBytes WellFormed
+module _ (x : Fixed) (c : Contents) (form : Form) (g : descriptionCheck (x .alias) (x .spaces) (length (x .flash)) (length (c .memory)) ≡ Passed) (six : length (c .registers .lock) ≡ 6) where
+  performed-read : (q : Request) → Allowed q → Named form q → ReadBack (perform x c form q .result)
+  unfolding perform WellFormed
   performed-read (asked.read space address count) a n =
       read-read (x .flash) (c .memory) form space address count n (a .1) (access false (foundIn x space) address 1)
       (perform-short x c form (asked.read space address count) a refl tt) (read-some x c space address count g (a .0))
@@ -131,12 +128,12 @@ module _ (x : Fixed) (c : Contents) (form : Form) (g : descriptionCheck (x .alia
   performed-read (asked.writeMasked space address pairs) a n =
       write-read form space address (length pairs) n (access true (foundIn x space) address (length pairs)) (perform-short x c form (asked.writeMasked space address pairs) a refl tt)
   performed-read asked.options a n =
-      is-read (options 0xE000 (x .writeLengths) 0xFF (lowest (lowestNumber (x .spaces)) noText)) _ (refl, tt, perform-short x c form asked.options a refl tt)
+      is-read (optionsReply (x .writeLengths) (x .spaces)) tt (perform-short x c form asked.options a refl tt)
   performed-read (asked.information space) a n = information-read space (foundIn x space) (perform-short x c form (asked.information space) a refl tt)
   performed-read (asked.reserve id) a n =
-      let l = lock-six (c .lock) id six a in
-      is-read (locked (testAndSet (c .lock) id)) _ (refl, l, perform-short x c form (asked.reserve id) a refl l)
-  performed-read asked.updateComplete a n = refl
+      let l = lock-six (c .registers .lock) id six a in
+      is-read (lockReply (testAndSet (c .registers .lock) id)) l (perform-short x c form (asked.reserve id) a refl l)
+  performed-read asked.updateComplete a n = tt
 
 replies-read : RepliesRead
 replies-read x c d form q g six e =

@@ -9,12 +9,11 @@ use lib.Dec.{ltb, eqb}
 use lib.ListN.{length, getD, drop}
 use borrow.Author.Tests.{lt-leb}
 use Rattle.buffer.proofs.Choice.{cond-elim}
-use Rattle.cmd_fields.specs.Commands.{Request, read, write, writeMasked, options, information, reserve, updateComplete, pairsOf, within, kindOfCommand, lowForm, formIn, spaceOf, addressOf, restOf}
+use Rattle.cmd_fields.specs.Commands.{Request, read, write, writeMasked, options, information, reserve, updateComplete, pairsOf, within, kindOfCommand, lowForm, Names, formIn, spaceOf, addressOf, restOf}
 use Rattle.cmd_fields.specs.declared.Form.{Form}
 use Rattle.cmd_fields.specs.declared.Form.the-variants.{NoSpace, Byte6, Fd, Fe, Ff}
 use Rattle.cmd_limits.specs.Limits.{countFits, bytesFit, pairsFit}
 use Rattle.cmd_decode.specs.Decoding.{Reading, rejected, request, orWrong, countOf, decodeRead, decodeWrite, decodeMasked, decodeKind, decode}
-use Rattle.tool_read_spec.specs.ReplyForms.{Names}
 use Rattle.tool_read_spec.proofs.SoundLaws.{within-true}
 
 abbrev pub Named : Form → Request → Type 0

@@ -9,7 +9,7 @@ use lib.ListN.{length, getD, drop}
 use borrow.Author.Tests.{eq-eqb, ne-eqb, le-leb, lt-leb}
 use Rattle.buffer.specs.BigEndian.{numberOf}
 use Rattle.buffer.proofs.Choice.{cond-elim, by-test}
-use Rattle.tool_read_spec.specs.ReplyForms.{bit1}
+use Rattle.reply_spec.specs.ReplyForms.{bit1}
 use Rattle.tool_read_spec.specs.Finding.{isText, textFrom, readLowest, findOptions, isGiven, descriptionStart, readAddress, findInformation, findLocked, findReply, findKind, kindOfReply}
 use Rattle.tool_read_spec.specs.declared.ReplyIn.{ReplyIn}
 use Rattle.tool_read_spec.specs.declared.ReplyIn.the-variants as found

@@ -1,4 +1,4 @@
--- Worked examples of replies: what is found in a datagram, and the bytes that a reply makes.
+-- Worked examples of replies: what is found in a datagram.
 -- Assumes nothing.
 use Prim.Native.Nat.{ℕ}
 use mathlib.Core.Path.{_≡_, refl}
@@ -7,7 +7,7 @@ use mathlib.Core.List.{List, [], _∷_, _++_}
 use mathlib.Core.Option.{Option, none, some}
 use lib.ListN.{replicate}
 use Rattle.cmd_fields.specs.declared.Form.the-variants.{Byte6, Fd, Fe, Ff}
-use Rattle.tool_read_spec.specs.ReplyForms.{noText, text, noLowest, lowest, noAddress, lowestAddress, Reply, read, readFailure, writeDone, writeFailure, options, information, locked, front, replyBytes, Names}
+use Rattle.reply_spec.specs.ReplyForms.{noText, text, noLowest, lowest, noAddress, lowestAddress, Reply, read, readFailure, writeDone, writeFailure, options, information, locked}
 use Rattle.tool_read_spec.specs.Finding.{firstZero, isText, kindOfReply, findRead, findWritten, failureFits, findReadFailure, findWriteFailure, findOptions, findInformation, findLocked, findKind, findReply, replyFound}
 
 abbrev found : List ℕ → Option Reply
@@ -129,16 +129,3 @@ byte-72 = refl
 byte-73 : found (0x20 ∷ 0x86 ∷ 0xFB ∷ 0 ∷ 0 ∷ 0 ∷ 0 ∷ 0 ∷ (replicate 64 65 ++ 0 ∷ [])) ≡ none
 unfolding findReply kindOfReply findKind findInformation isText firstZero replyFound
 byte-73 = refl
-
--- ---- the language alone
-
-fd-by-bits : Names Fd 0xFD
-fd-by-bits = refl
-
-read-failure-bytes : replyBytes (readFailure Fd 0xFD 0x12345678 0x1082 (text (65 ∷ []))) ≡ 0x20 ∷ 0x59 ∷ 0x12 ∷ 0x34 ∷ 0x56 ∷ 0x78 ∷ 0x10 ∷ 0x82 ∷ 65 ∷ 0 ∷ []
-unfolding replyBytes front
-read-failure-bytes = refl
-
-write-failure-bytes : replyBytes (writeFailure Fd 0xFD 0x12345678 0x1083 noText) ≡ 0x20 ∷ 0x19 ∷ 0x12 ∷ 0x34 ∷ 0x56 ∷ 0x78 ∷ 0x10 ∷ 0x83 ∷ []
-unfolding replyBytes front
-write-failure-bytes = refl

@@ -1,7 +1,6 @@
 pub mod Examples
 pub mod KindLaws
 pub mod TextLaws
-pub mod FrontLaws
 pub mod CompleteLaws
 pub mod SoundLaws
 pub mod ReadingLaws

@@ -2,7 +2,7 @@
 -- Assumes nothing.
 use mathlib.Core.Path.{_≡_, sym, _∙_}
 use mathlib.Core.Option.{some}
-use Rattle.tool_read_spec.specs.ReplyForms.{Reply}
+use Rattle.reply_spec.specs.ReplyForms.{Reply}
 use Rattle.tool_read_spec.specs.Finding.{Readings}
 use Rattle.tool_read_spec.proofs.CompleteLaws.{complete}
 use Rattle.tool_read_spec.proofs.SoundLaws.{sound}

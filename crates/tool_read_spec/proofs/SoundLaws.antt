@@ -15,12 +15,12 @@ use Rattle.buffer.specs.BigEndian.{numberOf, bytesOf, twoBytes}
 use Rattle.buffer.proofs.Choice.{cond-elim, and-left, and-right, by-test}
 use Rattle.buffer.proofs.Ends.{part-rest}
 use Rattle.cmd_fields.specs.Commands.{within, formIn, spaceOf, addressOf}
-use Rattle.tool_read_spec.specs.ReplyForms.{Text, textBytes, lowestBytes, addressBytes, Reply, read, readFailure, writeDone, writeFailure, options, information, locked, replyBytes, Ended, EndedBehind, bit1, lowestBit, WellFormed, IsReply}
+use Rattle.cmd_fields.proofs.HeadLaws.{bytes-back, two-back, six-first, head-back}
+use Rattle.reply_spec.specs.ReplyForms.{Text, textBytes, lowestBytes, addressBytes, Reply, read, readFailure, writeDone, writeFailure, options, information, locked, Ended, EndedBehind, bit1, lowestBit, WellFormed, IsReply}
 use Rattle.tool_read_spec.specs.Finding.{isText, textFrom, kindOfReply, headIn, orNone, findRead, findWritten, codeIn, failureFits, messageIn, findReadFailure, findWriteFailure, readLowest, findOptions, isGiven, descriptionStart, readAddress, findInformation, findLocked, findKind, findReply, bytesFrom, textOf, lowestOf, lowestAddressOf, replyFound}
 use Rattle.tool_read_spec.specs.declared.ReplyIn.{ReplyIn}
 use Rattle.tool_read_spec.specs.declared.ReplyIn.the-variants as found
 use Rattle.tool_read_spec.proofs.TextLaws.{text-sound}
-use Rattle.tool_read_spec.proofs.FrontLaws.{bytes-back, two-back, six-first, front-back}
 
 -- a number that passes the test of a range is in it
 pub within-true : (low high c : ℕ) → within low high c ≡ true → (low ≤ c) × (c ≤ high)
@@ -51,22 +51,22 @@ module _ (d : List ℕ) where
     -- ---- replies with an address
 
     read-sound : 0x50 ≤ getD d 1 0 → getD d 1 0 ≤ 0x53 → Sound (findRead d)
-    unfolding findRead replyFound WellFormed replyBytes
+    unfolding findRead replyFound WellFormed
     read-sound l h =
         or-none (ltb (headIn d) (length d) && leb (length d - headIn d) 64) (found.Read (formIn d) (spaceOf (formIn d) d) (addressOf d) (headIn d) (length d - headIn d)) (λ t.
         let a : headIn d < length d = ltb-true _ _ (and-left (ltb (headIn d) (length d)) _ t) in
         let b : length d - headIn d ≤ 64 = leb-true _ _ (and-right (ltb (headIn d) (length d)) _ t) in
-        let p = front-back d bytes first 0x50 refl (omega arith) l h (omega arith) in
+        let p = head-back d bytes first 0x50 refl (omega arith) l h (omega arith) in
         let n : length (bytesFrom (headIn d) (length d - headIn d) d) ≡ length d - headIn d = rw part-rest (length-drop (headIn d) d) in
         same (read (formIn d) (spaceOf (formIn d) d) (addressOf d) (bytesFrom (headIn d) (length d - headIn d) d))
         (rw part-rest (p .0), (p .1, omega (arith, n, a), omega (arith, n, b)), short))
 
     written-sound : 0x10 ≤ getD d 1 0 → getD d 1 0 ≤ 0x13 → Sound (findWritten d)
-    unfolding findWritten replyFound WellFormed replyBytes
+    unfolding findWritten replyFound WellFormed
     written-sound l h =
         or-none (eqb (length d) (headIn d)) (found.WriteDone (formIn d) (spaceOf (formIn d) d) (addressOf d)) (λ t.
         let a : length d ≡ headIn d = eqb-true _ _ t in
-        let p = front-back d bytes first 0x10 refl (omega arith) l h (omega arith) in
+        let p = head-back d bytes first 0x10 refl (omega arith) l h (omega arith) in
         let n : drop (headIn d) d ≡ [] = drop-of-length-le d {i = headIn d} (omega arith) in
         same (writeDone (formIn d) (spaceOf (formIn d) d) (addressOf d)) (rw (n, append-nil) at (p .0), p .1, short))
 
@@ -97,18 +97,18 @@ module _ (d : List ℕ) where
           ∙ rw (is-text .1) (sym (two-first d (headIn d) room))
 
     read-failure-sound : 0x58 ≤ getD d 1 0 → getD d 1 0 ≤ 0x5B → Sound (findReadFailure d)
-    unfolding findReadFailure replyFound WellFormed replyBytes message
+    unfolding findReadFailure replyFound WellFormed message
     read-failure-sound l h =
         or-none (failureFits d) (found.ReadFailure (formIn d) (spaceOf (formIn d) d) (addressOf d) (codeIn d) (messageIn d)) (λ t.
-        let p = front-back d bytes first 0x58 refl (omega arith) l h (omega (arith, room t)) in
+        let p = head-back d bytes first 0x58 refl (omega arith) l h (omega (arith, room t)) in
         same (readFailure (formIn d) (spaceOf (formIn d) d) (addressOf d) (codeIn d) (message t))
         (rw (code-and-message t) (p .0), (p .1, is-text t .0, few t), short))
 
     write-failure-sound : 0x18 ≤ getD d 1 0 → getD d 1 0 ≤ 0x1B → Sound (findWriteFailure d)
-    unfolding findWriteFailure replyFound WellFormed replyBytes message
+    unfolding findWriteFailure replyFound WellFormed message
     write-failure-sound l h =
         or-none (failureFits d) (found.WriteFailure (formIn d) (spaceOf (formIn d) d) (addressOf d) (codeIn d) (messageIn d)) (λ t.
-        let p = front-back d bytes first 0x18 refl (omega arith) l h (omega (arith, room t)) in
+        let p = head-back d bytes first 0x18 refl (omega arith) l h (omega (arith, room t)) in
         same (writeFailure (formIn d) (spaceOf (formIn d) d) (addressOf d) (codeIn d) (message t))
         (rw (code-and-message t) (p .0), (p .1, is-text t .0, few t), short))
 
@@ -124,7 +124,7 @@ module _ (d : List ℕ) where
         rw z (p .0, ap (λ (r : List ℕ). getD d 6 0 ∷ r) (p .1) ∙ sym (drop-cons d 6 0 (omega arith))))
 
     options-sound : getD d 1 0 ≡ 0x82 → Sound (findOptions d)
-    unfolding findOptions replyFound WellFormed replyBytes
+    unfolding findOptions replyFound WellFormed
     options-sound e =
         or-none (leb 6 (length d) && isText (drop 7 d)) (found.Options (getD d 2 0 * 256 + getD d 3 0) (getD d 4 0) (getD d 5 0) (readLowest d)) (λ t.
         let l : 6 ≤ length d = leb-true _ _ (and-left (leb 6 (length d)) _ t) in
@@ -164,7 +164,7 @@ module _ (d : List ℕ) where
         rw z (k, omega (arith, n), p .0, p .1))
 
     information-sound : (present : Bool) → getD d 1 0 ≡ cond present 0x87 0x86 → Sound (findInformation present d)
-    unfolding findInformation replyFound WellFormed replyBytes
+    unfolding findInformation replyFound WellFormed
     information-sound present e =
         or-none (leb (descriptionStart d) (length d) && isText (drop (descriptionStart d) d))
         (found.Information present (getD d 2 0) (numberOf (getD d 3 0) (getD d 4 0) (getD d 5 0) (getD d 6 0)) (getD d 7 0) (readAddress d) (textFrom (descriptionStart d) (length d))) (λ t.
@@ -175,7 +175,7 @@ module _ (d : List ℕ) where
     -- ---- the lock
 
     locked-sound : getD d 1 0 ≡ 0x8A → Sound (findLocked d)
-    unfolding findLocked replyFound WellFormed replyBytes
+    unfolding findLocked replyFound WellFormed
     locked-sound e =
         or-none (eqb (length d) 8) (found.Locked 2 6) (λ t.
         let l : length d ≡ 8 = eqb-true _ _ t in

@@ -11,7 +11,7 @@ use lib.ListN.{length, take, drop, length-append, length-drop, drop-of-length-le
 use lib.Seq.{take-at}
 use borrow.Author.Tests.{eq-eqb, ne-eqb, le-leb, lt-leb, eqb-true, leb-true, leb-false, not-true}
 use Rattle.buffer.proofs.Choice.{and-left, and-right, by-test}
-use Rattle.tool_read_spec.specs.ReplyForms.{Text, noText, text, textBytes, noZero, Ended}
+use Rattle.reply_spec.specs.ReplyForms.{Text, noText, text, textBytes, noZero, Ended}
 use Rattle.tool_read_spec.specs.Finding.{firstZero, isText, textFrom, textOf}
 
 -- the first zero byte behind characters of which none is zero

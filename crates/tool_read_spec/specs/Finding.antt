@@ -10,7 +10,7 @@ use lib.ListN.{length, getD, take, drop}
 use Rattle.buffer.specs.Buffer.{AllBytes}
 use Rattle.buffer.specs.BigEndian.{numberOf}
 use Rattle.cmd_fields.specs.Commands.{within, formIn, headLength, spaceOf, addressOf}
-use Rattle.tool_read_spec.specs.ReplyForms.{Text, noText, text, Lowest, noLowest, lowest, LowestAddress, noAddress, lowestAddress, Reply, read, readFailure, writeDone, writeFailure, options, information, locked, bit1, IsReply}
+use Rattle.reply_spec.specs.ReplyForms.{Text, noText, text, Lowest, noLowest, lowest, LowestAddress, noAddress, lowestAddress, Reply, read, readFailure, writeDone, writeFailure, options, information, locked, bit1, IsReply}
 use Rattle.tool_read_spec.specs.declared.TextIn.{TextIn}
 use Rattle.tool_read_spec.specs.declared.TextIn.the-variants.{NoText, TextAt}
 use Rattle.tool_read_spec.specs.declared.LowestIn.{LowestIn}

@@ -1,2 +1,1 @@
-pub mod ReplyForms
 pub mod Finding

@@ -2,6 +2,7 @@
 use Prim.Native.Nat.{ℕ}
 use mathlib.Core.Path.{_≡_}
 use mathlib.Core.Bool.{Bool, true, false, cond}
+use mathlib.Core.List.{List}
 use lib.Dec.{eqb}
 use Rattle.cmd_fields.specs.declared.Form.{Form}
 use Rattle.cmd_fields.specs.declared.Form.the-variants.{NoSpace, Byte6, Fd, Fe, Ff}
@@ -19,6 +20,7 @@ use Rattle.tool_read_spec.specs.declared.AddressIn.{AddressIn}
 use Rattle.tool_read_spec.specs.declared.AddressIn.the-variants.{NoAddress, AddressIs}
 use Rattle.tool_read_spec.specs.declared.ReplyIn.{ReplyIn}
 use Rattle.tool_read_spec.specs.declared.ReplyIn.the-variants as found
+use Rattle.tool_result_spec.specs.Layout.{replyFieldsBytes, replyIn}
 use Rattle.tool_result_spec.specs.declared.Composed.{Composed}
 use Rattle.tool_result_spec.specs.declared.Acknowledged.{Acknowledged}
 use Rattle.tool_result_spec.specs.declared.ByteRange.{ByteRange}
@@ -138,9 +140,9 @@ replyRefusal (found.Options commands lengths highest low) = notRefused
 replyRefusal (found.Information present space highest flags low description) = notRefused
 replyRefusal (found.Locked start n) = notRefused
 
--- A reply has no field for a refusal: W3 is its kind 0.
-abbrev pub replyRefusalIn : ReplyFields → ToolRefusal
-replyRefusalIn f = cond (eqb (f .kind) 0) w3 notRefused
+-- A reply has no field for a refusal: W3 is kind 0 in its bytes.
+abbrev pub replyRefusalIn : List ℕ → ToolRefusal
+replyRefusalIn bytes = cond (eqb (replyIn bytes .kind) 0) w3 notRefused
 
 -- ---- no blank stands for something
 
@@ -169,6 +171,6 @@ replyIs f =
     (found.Information (f .information .present) (f .space) (f .information .«highest_address») (f .information .flags) (addressGiven (f .information)) (textIs (f .bytes)))
     (cond (eqb (f .kind) 7) (found.Locked (f .bytes .start) (f .bytes .length)) found.NoReply))))))
 
--- Replies that differ have numbers that differ: no text is not an empty one, and what is missing is not 0.
+-- Replies that differ have bytes that differ: no text is not an empty one, and what is missing is not 0.
 abbrev pub ToldApart : Type 0
-ToldApart = (r : ReplyIn) → replyIs (fieldsOfReply r) ≡ r
+ToldApart = (r : ReplyIn) → replyIs (replyIn (replyFieldsBytes (fieldsOfReply r))) ≡ r

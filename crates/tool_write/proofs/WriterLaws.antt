@@ -5,31 +5,26 @@ use mathlib.Core.Path.{_≡_, sym, ap, _∙_}
 use mathlib.Core.Bool.{Bool, true, false, not}
 use mathlib.Core.List.{List, _++_}
 use native.Mathlib.Omega.{arith}
-use lib.ListN.{length, length-append}
+use lib.ListN.{length}
 use borrow.Author.Tests.{le-leb, not-true, not-false}
 use Rattle.buffer.specs.Buffer.{over}
-use Rattle.cmd_fields.specs.Commands.{formBits, headLength}
+use Rattle.cmd_fields.specs.Commands.{headBytes, headLength}
 use Rattle.cmd_fields.specs.declared.Form.{Form}
 use Rattle.reply_answer.specs.Answers.{receivedOkReply, Agrees}
 use Rattle.reply_answer.specs.declared.Answer.{Answer}
-use Rattle.reply_head.specs.Head.{replyHead}
 use Rattle.tool_write_spec.specs.Writing.{formFor, opening}
-use Rattle.tool_write_spec.proofs.WritingLaws.{head-small, opening-length}
+use Rattle.tool_write_spec.proofs.WritingLaws.{head-small, said}
 
 module _ (command s a : ℕ) (content : List ℕ) {form : Form} (f : form ≡ formFor s) where
   pub access-length : {n : ℕ} → n ≡ headLength form → n + length content ≡ length (opening command s a ++ content)
-  access-length e = rw (length-append (opening command s a) content, opening-length command s a, ← f, ← e)
-
-  same-head : {bits : ℕ} → bits ≡ formBits (formFor s) → replyHead (command + bits) form s a ≡ opening command s a
-  unfolding opening replyHead
-  same-head b = rw (f, b)
+  access-length e = rw (said command s a content .size, ← f, ← e)
 
   -- a buffer of 72 bytes has room for the head and 64 bytes
-  pub access-put : {bits : ℕ} {r : Answer} {before after : List ℕ} → 72 ≤ length before → length content ≤ 64 → bits ≡ formBits (formFor s) →
-      Agrees (receivedOkReply (replyHead (command + bits) form s a ++ content)) r before after → after ≡ over (opening command s a ++ content) before
-  access-put {before = before} room small b agrees =
+  pub access-put : {r : Answer} {before after : List ℕ} → 72 ≤ length before → length content ≤ 64 →
+      Agrees (receivedOkReply (headBytes command form s a ++ content)) r before after → after ≡ over (opening command s a ++ content) before
+  access-put {before = before} room small agrees =
       let l = access-length (ap headLength (sym f)) in
-      rw (same-head b, le-leb (length (opening command s a ++ content)) (length before) (omega (arith, head-small s))) at (agrees .buffer)
+      rw (f, le-leb (length (opening command s a ++ content)) (length before) (omega (arith, head-small s))) at (agrees .buffer)
 
 -- what a test of the code says of what it computes
 pub refused : {t s : Bool} → t ≡ s → not t ≡ true → s ≡ false

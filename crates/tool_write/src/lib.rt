@@ -23,13 +23,12 @@ fn put_access(
     address: u32,
     content: &[u8],
 ) -> CommandWritten
-    requires { ⌜ (command ≤ 0x40) × (72 ≤ length (now buffer)) × (length (now content) ≤ 64) ⌝ }
+    requires { ⌜ (72 ≤ length (now buffer)) × (length (now content) ≤ 64) ⌝ }
     ensures answer { λ r. ⌜ r ≡ CommandWritten.Length (length (opening command space address ++ before content)) ⌝ }
     ensures buffer { λ _. ⌜ after buffer ≡ over (opening command space address ++ before content) (before buffer) ⌝ }
 {
     let form = tool_write_spec::form_for(space);
-    let bits = tool_write_spec::control_bits(space);
-    let _ = reply_head::send(buffer, command + bits, form, space, address, content);
+    let _ = reply_head::send(buffer, command, form, space, address, content);
     CommandWritten::Length(cmd_fields::head_length(form) + content.len())
 }
 

@@ -3,28 +3,28 @@
 use mathlib.Core.Path.{_≡_, refl}
 use mathlib.Core.Bool.{true, false}
 use mathlib.Core.List.{[], _∷_}
-use Rattle.cmd_fields.specs.Commands.{pair, read, write, writeMasked, reserve, kindOfCommand, restOf}
+use Rattle.cmd_fields.specs.Commands.{pair, read, write, writeMasked, reserve, kindOfCommand, headBytes, restOf}
 use Rattle.cmd_fields.specs.declared.Form.the-variants.{Byte6, Fd}
 use Rattle.cmd_decode.specs.Decoding.{request, decodeRead, decodeKind, decode}
-use Rattle.tool_write_spec.specs.Writing.{opening, pairBytes, commandFor, inRange, w1, w2, command, writing, inOneForm}
+use Rattle.tool_write_spec.specs.Writing.{pairBytes, commandFor, inRange, w1, w2, command, writing, inOneForm}
 
 -- a read of 64 bytes by the control bits, and by byte 6: the top bit of the count is zero
 read-by-bits : commandFor (read 0xFD 0x12345678 64) ≡ 0x20 ∷ 0x41 ∷ 0x12 ∷ 0x34 ∷ 0x56 ∷ 0x78 ∷ 0x40 ∷ []
-unfolding commandFor opening
+unfolding commandFor headBytes
 read-by-bits = refl
 
 read-by-byte-6 : commandFor (read 0xFC 0x12345678 64) ≡ 0x20 ∷ 0x40 ∷ 0x12 ∷ 0x34 ∷ 0x56 ∷ 0x78 ∷ 0xFC ∷ 0x40 ∷ []
-unfolding commandFor opening
+unfolding commandFor headBytes
 read-by-byte-6 = refl
 
 -- a write of two bytes
 two-bytes : commandFor (write 0xFF 1 (0xAA ∷ 0xBB ∷ [])) ≡ 0x20 ∷ 0x03 ∷ 0 ∷ 0 ∷ 0 ∷ 1 ∷ 0xAA ∷ 0xBB ∷ []
-unfolding commandFor opening
+unfolding commandFor headBytes
 two-bytes = refl
 
 -- a masked write of one pair: the mask stands before its data
 one-pair : commandFor (writeMasked 0xFE 1 (pair 0xF0 0x50 ∷ [])) ≡ 0x20 ∷ 0x0A ∷ 0 ∷ 0 ∷ 0 ∷ 1 ∷ 0xF0 ∷ 0x50 ∷ []
-unfolding commandFor opening pairBytes
+unfolding commandFor headBytes pairBytes
 one-pair = refl
 
 -- W1 comes before W2

@@ -1,24 +1,23 @@
 -- Laws of the one form as a datagram shows it: the writer's bytes are in it, and no others that the board reads as the same request.
 -- Assumes nothing.
-use Prim.Native.Nat.{ℕ, _+_, _-_, _%_, _/_, _≤_, _<_}
+use Prim.Native.Nat.{ℕ, _+_, _-_, _%_, _≤_}
 use mathlib.Core.Path.{_≡_, refl, sym, ap, subst, _∙_}
 use mathlib.Core.Bool.{Bool, true, false, not, _&&_, _||_}
 use mathlib.Core.List.{List, [], _∷_, _++_}
 use native.Mathlib.Omega.{arith}
 use lib.Dec.{ltb, eqb}
 use lib.ListN.{length, getD, drop, length-drop}
-use lib.Seq.{drop-cons}
-use borrow.Author.Tests.{lt-ltb, lt-leb, ltb-true, eqb-true, eqb-false, not-false}
+use borrow.Author.Tests.{lt-ltb, ltb-true, eqb-true, eqb-false, not-false}
 use Rattle.buffer.specs.Buffer.{AllBytes}
-use Rattle.buffer.specs.BigEndian.{numberOf, bytesOf}
 use Rattle.buffer.proofs.Choice.{cond-elim, and-left, and-right, clash}
 use Rattle.cmd_limits.specs.Limits.{countFits, bytesFit, pairsFit}
-use Rattle.cmd_fields.specs.Commands.{Request, read, write, writeMasked, options, information, reserve, updateComplete, within, kindOfCommand, formBits, spaceOf, addressOf, headLength, formIn, restOf, spaceByte}
+use Rattle.cmd_fields.specs.Commands.{Request, read, write, writeMasked, options, information, reserve, updateComplete, within, kindOfCommand, withForm, Names, headBytes, spaceOf, addressOf, headLength, formIn, restOf}
 use Rattle.cmd_fields.specs.declared.Form.{Form}
-use Rattle.cmd_fields.specs.declared.Form.the-variants.{Byte6, Fd, Fe, Ff}
+use Rattle.cmd_fields.specs.declared.Form.the-variants.{NoSpace, Byte6, Fd, Fe, Ff}
 use Rattle.cmd_fields.specs.declared.Kind.{Kind}
 use Rattle.cmd_fields.specs.declared.Kind.the-variants.{Read, Write, WriteMasked, Options, Information, Lock, UpdateComplete, Unknown}
 use Rattle.cmd_fields.proofs.Laws.{is-read, is-write, is-masked, not-within, rest-is}
+use Rattle.cmd_fields.proofs.HeadLaws.{head-back}
 use Rattle.cmd_decode.specs.Decoding.{Reading, rejected, request, countOf, decodeRead, decodeWrite, decodeMasked, decodeKind, decode}
 use Rattle.tool_write_spec.specs.Writing.{formFor, opening, pairBytes, commandFor, inRange, spaceInForm, reservedZero, inOneForm, OneForm, EveryRequest}
 use Rattle.tool_write_spec.proofs.WritingLaws.{by-byte-6, bits-small, bounds, pairs-bounds, bytes-back, form, rest, read-back, NoShorter, none-shorter, all-in-range}
@@ -30,35 +29,35 @@ both a b p q = rw (p, q)
 
 module _ (command s a : ℕ) (content : List ℕ) where
   abbrev Named : Form → Type 0
-  Named f = spaceInForm f (getD (0x20 ∷ (command + formBits f) ∷ (bytesOf a ++ spaceByte f s) ++ content) 6 0) ≡ true
+  Named f = spaceInForm f (getD (headBytes command f s a ++ content) 6 0) ≡ true
 
   -- a space that goes by byte 6 is none of the three
   at-six : spaceInForm (formFor s) (getD (opening command s a ++ content) 6 0) ≡ true
-  unfolding opening
+  unfolding headBytes
   at-six =
       cond-elim Named (eqb s 0xFD) (λ _. refl)
       (λ x. cond-elim Named (eqb s 0xFE) (λ _. refl)
       (λ y. cond-elim Named (eqb s 0xFF) (λ _. refl)
       (λ z. ap not (not-within _ _ s (λ p q. omega (arith, eqb-false s 0xFD x, eqb-false s 0xFE y, eqb-false s 0xFF z))))))
 
-  opened-in-form : command % 4 ≡ 0 → command ≤ 0x40 → (k : Kind) → kindOfCommand (command + formBits (formFor s)) ≡ k → reservedZero k (getD content 0 0) ≡ true →
+  opened-in-form : command ≤ 0x40 → (k : Kind) → kindOfCommand (withForm command (formFor s)) ≡ k → reservedZero k (getD content 0 0) ≡ true →
       inOneForm (opening command s a ++ content) ≡ true
-  unfolding inOneForm opening
-  opened-in-form m l k e t =
+  unfolding inOneForm headBytes
+  opened-in-form l k e t =
       both (spaceInForm (formIn (opening command s a ++ content)) (getD (opening command s a ++ content) 6 0))
       (reservedZero (kindOfCommand (getD (opening command s a ++ content) 1 0)) (getD (restOf (opening command s a ++ content)) 0 0))
-      (ap (λ f. spaceInForm f (getD (opening command s a ++ content) 6 0)) (form command s a content m l) ∙ at-six)
-      (ap (λ r. reservedZero (kindOfCommand (command + formBits (formFor s))) (getD r 0 0)) (rest command s a content m l)
+      (ap (λ f. spaceInForm f (getD (opening command s a ++ content) 6 0)) (form command s a content l) ∙ at-six)
+      (ap (λ r. reservedZero (kindOfCommand (withForm command (formFor s))) (getD r 0 0)) (rest command s a content l)
       ∙ ap (λ k. reservedZero k (getD content 0 0)) e ∙ t)
 
 in-form : (q : Request) → inRange q ≡ true → inOneForm (commandFor q) ≡ true
 unfolding inRange commandFor inOneForm kindOfCommand
 in-form (read s a n) h =
     let b = bounds _ _ n h in
-    opened-in-form 0x40 s a (n ∷ []) refl (omega arith) Read (is-read (0x40 + formBits (formFor s)) (omega arith) (omega (arith, bits-small s))) (lt-ltb n _ (omega arith))
-in-form (write s a bytes) h = opened-in-form 0x00 s a bytes refl (omega arith) Write (is-write (0x00 + formBits (formFor s)) (omega (arith, bits-small s))) refl
+    opened-in-form 0x40 s a (n ∷ []) (omega arith) Read (is-read (withForm 0x40 (formFor s)) (omega arith) (omega (arith, bits-small s))) (lt-ltb n _ (omega arith))
+in-form (write s a bytes) h = opened-in-form 0x00 s a bytes (omega arith) Write (is-write (withForm 0x00 (formFor s)) (omega (arith, bits-small s))) refl
 in-form (writeMasked s a pairs) h =
-    opened-in-form 0x08 s a (pairBytes pairs) refl (omega arith) WriteMasked (is-masked (0x08 + formBits (formFor s)) (omega arith) (omega (arith, bits-small s))) refl
+    opened-in-form 0x08 s a (pairBytes pairs) (omega arith) WriteMasked (is-masked (withForm 0x08 (formFor s)) (omega arith) (omega (arith, bits-small s))) refl
 in-form options h = refl
 in-form (information s) h = refl
 in-form (reserve id) h = refl
@@ -66,71 +65,23 @@ in-form updateComplete h = refl
 
 -- ---- no others are
 
-bytes-again : (a b c e : ℕ) → b < 256 → c < 256 → e < 256 → bytesOf (numberOf a b c e) ≡ a ∷ b ∷ c ∷ e ∷ []
-bytes-again a b c e p q r =
-    let w : numberOf a b c e / 16777216 ≡ a = omega arith in
-    let x : numberOf a b c e / 65536 % 256 ≡ b = omega arith in
-    let y : numberOf a b c e / 256 % 256 ≡ c = omega arith in
-    let z : numberOf a b c e % 256 ≡ e = omega arith in
-    cc
+-- a space in the one form is named by the form that the writer takes for it
+own-form : (f : Form) (d : List ℕ) → Names f (spaceOf f d) → spaceInForm f (getD d 6 0) ≡ true → formFor (spaceOf f d) ≡ f
+own-form NoSpace d n t = absurd n
+own-form Byte6 d n t = by-byte-6 (getD d 6 0) (λ i. outside i refl) (λ i. outside i refl) (λ i. outside i refl)
+  where
+    outside : {n : ℕ} → getD d 6 0 ≡ n → spaceInForm Byte6 n ≡ false → ⊥
+    outside i w = clash (sym t ∙ ap (spaceInForm Byte6) i ∙ w)
+own-form Fd d n t = refl
+own-form Fe d n t = refl
+own-form Ff d n t = refl
 
-six : (d : List ℕ) → 6 ≤ length d → d ≡ getD d 0 0 ∷ getD d 1 0 ∷ ((getD d 2 0 ∷ getD d 3 0 ∷ getD d 4 0 ∷ getD d 5 0 ∷ []) ++ drop 6 d)
-six [] h = absurd (omega arith)
-six (a ∷ []) h = absurd (omega arith)
-six (a ∷ b ∷ []) h = absurd (omega arith)
-six (a ∷ b ∷ c ∷ []) h = absurd (omega arith)
-six (a ∷ b ∷ c ∷ e ∷ []) h = absurd (omega arith)
-six (a ∷ b ∷ c ∷ e ∷ f ∷ []) h = absurd (omega arith)
-six (a ∷ b ∷ c ∷ e ∷ f ∷ g ∷ more) h = refl
-
-module _ (command : ℕ) (d : List ℕ) (z : getD d 0 0 ≡ 0x20) (bytes : AllBytes d) where
-  -- a head by its form
-  abbrev Headed : Form → Type 0
-  Headed f = headLength f < length d → spaceInForm f (getD d 6 0) ≡ true → d ≡ opening command (spaceOf f d) (addressOf d) ++ drop (headLength f) d
-
-  abbrev Opened : Form → Type 0
-  Opened f = getD d 1 0 ≡ command + formBits f → Headed f
-
-  start : (c : ℕ) → 6 ≤ length d → getD d 1 0 ≡ c → d ≡ 0x20 ∷ c ∷ (bytesOf (addressOf d) ++ drop 6 d)
-  start c h e =
-      six d h ∙ ap (λ x. x ∷ getD d 1 0 ∷ ((getD d 2 0 ∷ getD d 3 0 ∷ getD d 4 0 ∷ getD d 5 0 ∷ []) ++ drop 6 d)) z
-      ∙ ap (λ x. 0x20 ∷ x ∷ ((getD d 2 0 ∷ getD d 3 0 ∷ getD d 4 0 ∷ getD d 5 0 ∷ []) ++ drop 6 d)) e
-      ∙ ap (λ (l : List ℕ). 0x20 ∷ c ∷ (l ++ drop 6 d)) (sym (bytes-again (getD d 2 0) (getD d 3 0) (getD d 4 0) (getD d 5 0) (bytes 3) (bytes 4) (bytes 5)))
-
-  opened-fd : Opened Fd
-  unfolding opening
-  opened-fd e h t = start (command + 1) (omega arith) e
-
-  opened-fe : Opened Fe
-  unfolding opening
-  opened-fe e h t = start (command + 2) (omega arith) e
-
-  opened-ff : Opened Ff
-  unfolding opening
-  opened-ff e h t = start (command + 3) (omega arith) e
-
-  opened-6 : Opened Byte6
-  unfolding opening
-  opened-6 e h t =
-      let f = by-byte-6 (getD d 6 0) (λ i. outside i refl) (λ i. outside i refl) (λ i. outside i refl) in
-      rw f (start (command + 0) (omega arith) e ∙ ap (λ (l : List ℕ). 0x20 ∷ (command + 0) ∷ (bytesOf (addressOf d) ++ l)) (drop-cons d 6 0 (omega arith)))
-    where
-      outside : {n : ℕ} → getD d 6 0 ≡ n → spaceInForm Byte6 n ≡ false → ⊥
-      outside i w = clash (sym t ∙ ap (spaceInForm Byte6) i ∙ w)
-
-  -- by the low two bits of byte 1
-  opened : command % 4 ≡ 0 → command ≤ 0x40 → command ≤ getD d 1 0 → getD d 1 0 ≤ command + 3 → 1 ≤ length (restOf d) → spaceInForm (formIn d) (getD d 6 0) ≡ true →
-      d ≡ opening command (spaceOf (formIn d) d) (addressOf d) ++ restOf d
-  opened m l low high r =
-      let n : length (restOf d) ≡ length d - headLength (formIn d) = rw (rest-is d) (length-drop (headLength (formIn d)) d) in
-      rw (rest-is d) (by-bits (omega arith))
-    where
-      by-bits : Headed (formIn d)
-      by-bits = rw (lt-leb 0x80 (getD d 1 0) (omega arith))
-          (cond-elim Headed (eqb (getD d 1 0 % 4) 0) (λ i. opened-6 (omega (arith, eqb-true (getD d 1 0 % 4) 0 i)))
-          (λ a. cond-elim Headed (eqb (getD d 1 0 % 4) 1) (λ i. opened-fd (omega (arith, eqb-true (getD d 1 0 % 4) 1 i)))
-          (λ b. cond-elim Headed (eqb (getD d 1 0 % 4) 2) (λ i. opened-fe (omega (arith, eqb-true (getD d 1 0 % 4) 2 i)))
-          (λ c. opened-ff (omega (arith, eqb-false (getD d 1 0 % 4) 0 a, eqb-false (getD d 1 0 % 4) 1 b, eqb-false (getD d 1 0 % 4) 2 c))))))
+opened : (command : ℕ) (d : List ℕ) → getD d 0 0 ≡ 0x20 → AllBytes d → command % 4 ≡ 0 → command ≤ 0x40 → command ≤ getD d 1 0 → getD d 1 0 ≤ command + 3 → 1 ≤ length (restOf d) →
+    spaceInForm (formIn d) (getD d 6 0) ≡ true → d ≡ opening command (spaceOf (formIn d) d) (addressOf d) ++ restOf d
+opened command d z bytes m l low high r t =
+    let n : length (restOf d) ≡ length d - headLength (formIn d) = rw (rest-is d) (length-drop (headLength (formIn d)) d) in
+    let b = head-back d bytes z command m (omega arith) low high (omega arith) in
+    sym (rw (rest-is d, own-form (formIn d) d (b .1) t) (b .0))
 
 -- where each command stands
 abbrev Stands : ℕ → Kind → Type 0

@@ -6,18 +6,17 @@ use mathlib.Core.Bool.{true, not, _&&_, _||_}
 use mathlib.Core.List.{List, [], _∷_, _++_}
 use native.Mathlib.Omega.{arith}
 use lib.Dec.{leb, ltb, eqb}
-use lib.ListN.{length, getD, length-append, length-drop}
-use lib.Seq.{drop-at}
+use lib.ListN.{length, getD, length-drop}
 use borrow.Author.Tests.{eq-eqb, ne-eqb, lt-leb, leb-true, eqb-true}
-use Rattle.buffer.specs.BigEndian.{bytesOf}
 use Rattle.buffer.proofs.Choice.{cond-elim, and-left, and-right}
 use Rattle.cmd_limits.specs.Limits.{countIn, countFits, bytesFit, pairsFit}
-use Rattle.cmd_fields.specs.Commands.{Pair, Request, read, write, writeMasked, options, information, reserve, updateComplete, pairsOf, within, kindOfCommand, lowForm, formOf, formBits, spaceByte, spaceOf, addressOf, headLength, formIn, restOf}
+use Rattle.cmd_fields.specs.Commands.{Pair, Request, read, write, writeMasked, options, information, reserve, updateComplete, pairsOf, within, kindOfCommand, formOf, formBits, withForm, Names, headBytes, spaceOf, addressOf, headLength, formIn, restOf}
 use Rattle.cmd_fields.specs.declared.Form.{Form}
 use Rattle.cmd_fields.specs.declared.Form.the-variants.{Byte6}
 use Rattle.cmd_fields.specs.declared.Kind.{Kind}
 use Rattle.cmd_fields.specs.declared.Kind.the-variants.{Read, Write, WriteMasked, Options, Information, Lock, UpdateComplete, Unknown}
 use Rattle.cmd_fields.proofs.Laws.{is-read, is-write, is-masked, is-within, rest-is, pairs-length}
+use Rattle.cmd_fields.proofs.HeadLaws.{Headed, headed, form-back}
 use Rattle.cmd_decode.specs.Decoding.{Reading, rejected, request, orWrong, countOf, decodeRead, decodeWrite, decodeMasked, decodeKind, decode}
 use Rattle.cmd_decode.proofs.Laws.{Allowed, AllowedIn, allowed, decode-command}
 use Rattle.tool_write_spec.specs.Writing.{formFor, opening, pairBytes, commandFor, inRange, formWritten, AllInRange}
@@ -41,12 +40,9 @@ bits-small = by-space (λ s f. formBits f ≤ 3) (omega arith) (omega arith) (om
 pub head-small : (s : ℕ) → headLength (formFor s) ≤ 7
 head-small = by-space (λ s f. headLength f ≤ 7) (omega arith) (omega arith) (omega arith) (λ s. omega arith)
 
--- the control bits say the form
-form-said : (command : ℕ) → command % 4 ≡ 0 → command ≤ 0x40 → (s : ℕ) → formOf (command + formBits (formFor s)) ≡ formFor s
-form-said command m l s =
-    let h = bits-small s in
-    let e : (command + formBits (formFor s)) % 4 ≡ formBits (formFor s) = omega arith in
-    rw (lt-leb 0x80 (command + formBits (formFor s)) (omega arith), e) (by-space (λ s f. lowForm (formBits f) ≡ f) refl refl refl (λ s. refl) s)
+-- the form names the space
+pub names-for : (s : ℕ) → Names (formFor s) s
+names-for = by-space (λ s f. Names f s) refl refl refl (λ s. tt)
 
 -- ---- the bytes of pairs
 
@@ -68,43 +64,29 @@ bytes-back (m ∷ v ∷ more) e = ap (λ (bytes : List ℕ). m ∷ v ∷ bytes) 
 
 -- ---- a command with an address, read back
 
-module _ (command s a : ℕ) where
-  pub opening-length : length (opening command s a) ≡ headLength (formFor s)
-  unfolding opening
-  opening-length = by-space (λ s f. length (0x20 ∷ 0 ∷ (bytesOf a ++ spaceByte f s)) ≡ headLength f) refl refl refl (λ s. refl) s
+module _ (command s a : ℕ) (content : List ℕ) where
+  abbrev pub datagram : List ℕ
+  datagram = opening command s a ++ content
 
-  module _ (content : List ℕ) where
-    abbrev pub datagram : List ℕ
-    datagram = opening command s a ++ content
+  pub said : Headed command (formFor s) s a content datagram
+  said = headed command (formFor s) s a content (names-for s)
 
-    size : length datagram ≡ headLength (formFor s) + length content
-    size = length-append (opening command s a) content ∙ rw opening-length
+  module _ (l : command ≤ 0x40) where
+    pub form : formIn datagram ≡ formFor s
+    form = ap formOf (said .second) ∙ form-back (formFor s) s command (names-for s) (omega arith)
 
-    address : addressOf datagram ≡ a
-    unfolding opening
-    address = omega arith
+    pub rest : restOf datagram ≡ content
+    rest = rest-is datagram ∙ rw form (said .behind)
 
-    space : spaceOf (formFor s) datagram ≡ s
-    unfolding opening
-    space = by-space (λ s f. spaceOf f (0x20 ∷ (command + formBits f) ∷ (bytesOf a ++ spaceByte f s) ++ content) ≡ s) refl refl refl (λ s. refl) s
+    decoded : length content ≤ 64 → decode datagram ≡ decodeKind (kindOfCommand (withForm command (formFor s))) datagram
+    unfolding headBytes
+    decoded h = sym (decode-command datagram (λ e. omega arith) (omega (arith, said .size, said .most)) refl (λ e. omega arith))
 
-    module _ (m : command % 4 ≡ 0) (l : command ≤ 0x40) where
-      pub form : formIn datagram ≡ formFor s
-      unfolding opening
-      form = form-said command m l s
-
-      pub rest : restOf datagram ≡ content
-      rest = rest-is datagram ∙ rw form (drop-at (opening command s a) content (headLength (formFor s)) opening-length)
-
-      decoded : length content ≤ 64 → decode datagram ≡ decodeKind (kindOfCommand (command + formBits (formFor s))) datagram
-      unfolding opening
-      decoded h = sym (decode-command datagram (λ e. omega arith) (omega (arith, size, head-small s)) refl (λ e. omega arith))
-
-      -- a command of this kind is read by its form, its space, its address and what remains
-      reads : (k : Kind) (by : Form → ℕ → ℕ → List ℕ → Reading) → length content ≤ 64 → kindOfCommand (command + formBits (formFor s)) ≡ k →
-          decodeKind k datagram ≡ by (formIn datagram) (spaceOf (formIn datagram) datagram) (addressOf datagram) (restOf datagram) →
-          decode datagram ≡ by (formFor s) s a content
-      reads k by h e p = decoded h ∙ ap (λ (k : Kind). decodeKind k datagram) e ∙ p ∙ rw (form, space, address, rest)
+    -- a command of this kind is read by its form, its space, its address and what remains
+    reads : (k : Kind) (by : Form → ℕ → ℕ → List ℕ → Reading) → length content ≤ 64 → kindOfCommand (withForm command (formFor s)) ≡ k →
+        decodeKind k datagram ≡ by (formIn datagram) (spaceOf (formIn datagram) datagram) (addressOf datagram) (restOf datagram) →
+        decode datagram ≡ by (formFor s) s a content
+    reads k by h e p = decoded h ∙ ap (λ (k : Kind). decodeKind k datagram) e ∙ p ∙ rw (form, said .named, said .addressed, rest)
 
 -- ---- the board's reading
 
@@ -121,20 +103,20 @@ unfolding inRange commandFor decode decodeKind kindOfCommand decodeRead decodeWr
 read-back (read s a n) h =
     let b = bounds _ _ n h in
     let e : n % 128 ≡ n = omega arith in
-    reads 0x40 s a (n ∷ []) refl (omega arith) Read
+    reads 0x40 s a (n ∷ []) (omega arith) Read
     (λ f s a r. orWrong (eqb (length r) 1 && countFits (countIn (getD r 0 0))) (request f (read s a (countIn (getD r 0 0)))))
-    (omega arith) (is-read (0x40 + formBits (formFor s)) (omega arith) (omega (arith, bits-small s))) refl
+    (omega arith) (is-read (withForm 0x40 (formFor s)) (omega arith) (omega (arith, bits-small s))) refl
     ∙ rw (e, is-within 1 64 n (omega arith) (omega arith))
 read-back (write s a bytes) h =
     let b = bounds _ _ (length bytes) h in
-    reads 0x00 s a bytes refl (omega arith) Write (λ f s a r. orWrong (bytesFit (length r)) (request f (write s a r)))
-    (omega arith) (is-write (0x00 + formBits (formFor s)) (omega (arith, bits-small s))) refl
+    reads 0x00 s a bytes (omega arith) Write (λ f s a r. orWrong (bytesFit (length r)) (request f (write s a r)))
+    (omega arith) (is-write (withForm 0x00 (formFor s)) (omega (arith, bits-small s))) refl
     ∙ rw (is-within 1 64 (length bytes) (omega arith) (omega arith))
 read-back (writeMasked s a pairs) h =
     let b = bounds _ _ (length pairs) h in
     let n = pair-bytes-length pairs in
-    reads 0x08 s a (pairBytes pairs) refl (omega arith) WriteMasked (λ f s a r. orWrong (pairsFit (length r)) (request f (writeMasked s a (pairsOf r))))
-    (omega arith) (is-masked (0x08 + formBits (formFor s)) (omega arith) (omega (arith, bits-small s))) refl
+    reads 0x08 s a (pairBytes pairs) (omega arith) WriteMasked (λ f s a r. orWrong (pairsFit (length r)) (request f (writeMasked s a (pairsOf r))))
+    (omega arith) (is-masked (withForm 0x08 (formFor s)) (omega arith) (omega (arith, bits-small s))) refl
     ∙ rw (is-within 1 64 (length (pairBytes pairs)) (omega arith) (omega arith), eq-eqb (length (pairBytes pairs) % 2) 0 (omega arith), pairs-back pairs)
 read-back options h = refl
 read-back (information s) h = refl
@@ -180,7 +162,7 @@ with-address : (command a : ℕ) (content d : List ℕ) → getD d 1 0 < 0x80 �
     length (opening command (spaceOf (formIn d) d) a ++ content) ≤ length d
 with-address command a content d h r c =
     let n : length (restOf d) ≡ length d - headLength (formIn d) = rw (rest-is d) (length-drop (headLength (formIn d)) d) in
-    omega (arith, size command (spaceOf (formIn d) d) a content, head-least d h)
+    omega (arith, said command (spaceOf (formIn d) d) a content .size, head-least d h)
 
 abbrev pub NoShorter : List ℕ → Reading → Type 0
 NoShorter d (rejected code) = Unit {0}

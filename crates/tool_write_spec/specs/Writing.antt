@@ -1,14 +1,13 @@
 -- Document 02, C-12: "a writer for every command in document 01, in one form only".
-use Prim.Native.Nat.{ℕ, _+_, _≤_}
+use Prim.Native.Nat.{ℕ, _≤_}
 use mathlib.Core.Path.{_≡_}
 use mathlib.Core.Bool.{Bool, true, cond, not, _&&_}
 use mathlib.Core.List.{List, [], _∷_, _++_}
 use lib.Dec.{leb, ltb, eqb}
 use lib.ListN.{length, getD}
 use Rattle.buffer.specs.Buffer.{over, AllBytes}
-use Rattle.buffer.specs.BigEndian.{bytesOf}
 use Rattle.cmd_limits.specs.Limits.{countFits, bytesFit}
-use Rattle.cmd_fields.specs.Commands.{Pair, Request, read, write, writeMasked, options, information, reserve, updateComplete, within, kindOfCommand, formBits, spaceByte, formIn, restOf}
+use Rattle.cmd_fields.specs.Commands.{Pair, Request, read, write, writeMasked, options, information, reserve, updateComplete, within, kindOfCommand, headBytes, formIn, restOf}
 use Rattle.cmd_fields.specs.declared.Form.{Form}
 use Rattle.cmd_fields.specs.declared.Form.the-variants.{NoSpace, Byte6, Fd, Fe, Ff}
 use Rattle.cmd_fields.specs.declared.Kind.{Kind}
@@ -23,9 +22,9 @@ use Rattle.tool_write_spec.specs.declared.CommandWritten.the-variants.{O
 abbrev pub formFor : ℕ → Form
 formFor space = cond (eqb space 0xFD) Fd (cond (eqb space 0xFE) Fe (cond (eqb space 0xFF) Ff Byte6))
 
--- Byte 0, the command with its control bits, the four bytes of the address, and byte 6 where the control bits are zero.
-unfoldable pub opening : ℕ → ℕ → ℕ → List ℕ
-opening command space address = 0x20 ∷ (command + formBits (formFor space)) ∷ (bytesOf address ++ spaceByte (formFor space) space)
+-- The first bytes of a command with an address, in that form.
+abbrev pub opening : ℕ → ℕ → ℕ → List ℕ
+opening command space address = headBytes command (formFor space) space address
 
 -- "pairs (mask, data)" as bytes
 unfoldable pub pairBytes : List Pair → List ℕ

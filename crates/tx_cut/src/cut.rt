@@ -22,7 +22,7 @@ const LAST: u32 = 0x1D;
 // headers of a datagram's frames share: the destination's 12 bits and then the source's. One number instead of two, and
 // lent bytes of a known length, leave less for each call to hand on. The clause `size` is for the callers' proofs: how
 // long a lent array is, is known only where it is handed on as a slice.
-fn put_fragment(frames: &mut [u8; 160], n: usize, kind: u32, aliases: u32, part: &[u8]) -> usize
+fn put_fragment(frames: &mut [u8; 160], n: u32, kind: u32, aliases: u32, part: &[u8]) -> u32
     requires { ⌜ (kind < 32) × (aliases < 16777216) × (n ≤ 10) ⌝ }
     ensures next { λ r. ⌜ r ≡ n + 1 ⌝ }
     ensures bytes { λ _.
@@ -31,13 +31,13 @@ fn put_fragment(frames: &mut [u8; 160], n: usize, kind: u32, aliases: u32, part:
     ensures size { λ _. ⌜ length (before frames) ≡ 160 ⌝ }
 {
     let header = kind * 0x1000000 + aliases;
-    can_frame_bytes::put_frame(frames, n, header, part);
+    can_frame_bytes::put_frame(frames, n as usize, header, part);
     n + 1
 }
 
 // Of more than 8 bytes the first 8 go in a Middle, and what is left is cut by the same rule; 1 to 8 go in a Last. The
 // frames are put into the lent bytes from frame n on; the number of all is returned.
-pub fn cut_rest(rest: &[u8], aliases: u32, frames: &mut [u8; 160], n: usize) -> usize
+pub fn cut_rest(rest: &[u8], aliases: u32, frames: &mut [u8; 160], n: u32) -> u32
     requires { ⌜ (aliases < 16777216) × (n + length (restFrames (aliases / 4096) (aliases % 4096) (now rest)) ≤ 10) ⌝ }
     ensures count { λ r. ⌜ r ≡ n + length (restFrames (aliases / 4096) (aliases % 4096) (before rest)) ⌝ }
     ensures bytes { λ _.
@@ -53,7 +53,7 @@ pub fn cut_rest(rest: &[u8], aliases: u32, frames: &mut [u8; 160], n: usize) -> 
 
 // Up to 8 bytes go in a Single; otherwise the first 8 go in a First, and the rest is cut by the rule above. The frames
 // are put into the lent bytes from frame n on; the number of all is returned.
-pub fn cut_whole(datagram: &[u8], aliases: u32, frames: &mut [u8; 160], n: usize) -> usize
+pub fn cut_whole(datagram: &[u8], aliases: u32, frames: &mut [u8; 160], n: u32) -> u32
     requires { ⌜ (aliases < 16777216)
         × (n + length (framesOf (aliases / 4096) (aliases % 4096) (now datagram)) ≤ 10) ⌝ }
     ensures count { λ r. ⌜ r ≡ n + length (framesOf (aliases / 4096) (aliases % 4096) (before datagram)) ⌝ }

@@ -12,13 +12,7 @@ mod cut;
 
 // Cuts a datagram into frames that are put from frame n on, and gives the number of all: n where B9 refuses the
 // datagram.
-fn cut_from(
-    datagram: &[u8],
-    destination: u16,
-    source: u16,
-    frames: &mut [u8; 160],
-    n: usize,
-) -> usize
+fn cut_from(datagram: &[u8], destination: u16, source: u16, frames: &mut [u8; 160], n: u32) -> usize
     requires { ⌜ n ≤ 1 ⌝ }
     ensures count { λ r. ⌜ r ≡ n + length (cutFrames (before datagram) destination source) ⌝ }
     ensures bytes { λ _.
@@ -26,10 +20,10 @@ fn cut_from(
         (before frames) ⌝ }
 {
     if !tx_cut_spec::is_cut(datagram.len(), destination, source) {
-        return n;
+        return n as usize;
     }
     let aliases = destination as u32 * 0x1000 + source as u32;
-    cut::cut_whole(datagram, aliases, frames, n)
+    cut::cut_whole(datagram, aliases, frames, n) as usize
 }
 
 // Cuts a datagram into frames from the source to the destination, and gives their number, 1 to 9. Refused, by B9, with

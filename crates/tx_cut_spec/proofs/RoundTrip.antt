@@ -18,11 +18,12 @@ use Rattle.can_frame.specs.declared.Role.{Role}
 use Rattle.can_frame.specs.declared.Role.the-variants.{Single, First, Middle, Last}
 use Rattle.can_frame.specs.Frame.{CanFrame, canFrame, sourceOf, kindOfFrame, roleOf, headerOf, frameOf}
 use Rattle.can_frame.proofs.Laws.{source-of-header, role-of-header}
-use Rattle.rx_spec.specs.Place.{Place}
-use Rattle.rx_spec.specs.Ticks.{age}
+use Rattle.rx_place_spec.specs.Place.{Place}
+use Rattle.rx_place_spec.specs.Ticks.{age}
 use Rattle.rx_spec.specs.Books.{Book, blank, holds, swallowing, Event, noAnswer, finish, Entry, entry, fits, bookRule}
 use Rattle.rx_spec.specs.Times.{frameInput, isAccepted}
-use Rattle.rx_spec.specs.Reception.{State, isFor, unfinishedFor, full, atTick, Joined, receive, receiveAll}
+use Rattle.rx_place_spec.specs.State.{State}
+use Rattle.rx_spec.specs.Reception.{isFor, unfinishedFor, full, atTick, Joined, receive, receiveAll}
 use Rattle.tx_cut_spec.specs.Cutting.{single, first, middle, last, restFrames, framesOf, cutFrames, carried, PromptAfter, Prompt, mayBegin, CutJoins}
 use Rattle.rx_spec.proofs.PlaceLaws.{Good, sound-good, good-sound}
 use Rattle.rx_spec.proofs.StepLaws.{Sized, Step, entryOf, with-room}
@@ -52,6 +53,11 @@ quiet-more e f (g ∷ fs) h =
 no-more : (alias : ℕ) (st : State) (ticks : List ℕ) → receiveAll alias st ticks [] ≡ []
 no-more alias st [] = refl
 no-more alias st (now ∷ ticks) = refl
+
+-- a frame received, and the others behind it
+received : (alias now : ℕ) (ticks : List ℕ) (st : State) (f : CanFrame) (fs : List CanFrame) → Good (st .places) →
+    receiveAll alias st (now ∷ ticks) (f ∷ fs) ≡ receive alias now st f .event ∷ receiveAll alias (receive alias now st f .state) ticks fs
+received alias now ticks st f fs g = rw (good-sound (st .places) g)
 
 -- what is kept for s has the tick `now`
 abbrev Ticked : ℕ → ℕ → State → Type 0
@@ -85,7 +91,7 @@ module _ (alias s : ℕ) (ha : alias ≤ 4095) (hs : s ≤ 4095) (ne : s ≢ ali
       subst (λ (t : ℕ). Step now mid t (taken alias now st (frameInput f)) (bookRule (kindOfFrame k) xs b)) q
       (subst (λ (e : Entry). Step now mid (sourceOf (headerOf k alias s)) (taken alias now st (frameInput f)) e) x (frame-step alias now f st g z)) in
       subst (λ (j : Joined). Step now mid s j (bookRule (kindOfFrame k) xs b))
-      (sym (ap (receive alias now st) (carried-is (headerOf k alias s) xs) ∙ receive-is alias now st f (good-sound (st .places) g))) p
+      (sym (ap (receive alias now st) (carried-is (headerOf k alias s) xs) ∙ receive-is alias now st f)) p
 
   abbrev RestJoins : List ℕ → Type 0
   RestJoins xs =
@@ -106,7 +112,8 @@ module _ (alias s : ℕ) (ha : alias ≤ 4095) (hs : s ≤ 4095) (ne : s ≢ ali
       let e : bookRule Last xs (holds b) .event ≡ finish (b ++ xs) = rw (le-leb (length b + length xs) 72 t) in
       let left : State = receive alias now st (carried (last alias s xs)) .state in
       rw (rest-last alias s xs l)
-      (ap (λ (v : Event). v ∷ receiveAll alias left ticks []) (j .event ∙ e) ∙ ap (λ (vs : List Event). finish (b ++ xs) ∷ vs) (no-more alias left ticks))
+      (received alias now ticks st (carried (last alias s xs)) [] g
+      ∙ ap (λ (v : Event). v ∷ receiveAll alias left ticks []) (j .event ∙ e) ∙ ap (λ (vs : List Event). finish (b ++ xs) ∷ vs) (no-more alias left ticks))
 
   -- a Middle appends 8 bytes, without an answer
   rest-long : (xs : List ℕ) → 8 < length xs → RestJoins (drop 8 xs) → RestJoins xs
@@ -128,7 +135,8 @@ module _ (alias s : ℕ) (ha : alias ≤ 4095) (hs : s ≤ 4095) (ne : s ≢ ali
       let k : suc (length ticks) ≡ suc (length rest) = n ∙ ap length more in
       let r = ih left (b ++ take 8 xs) ticks now (j .good) (j .sized) (j .own ∙ o) (turned-tick now s _ (atTick now st .places) (left .places) a (j .turned)) (rw length-append (omega arith)) (omega arith) (p .1) in
       rw more
-      (ap (λ (v : Event). v ∷ receiveAll alias left ticks (map carried rest)) (j .event ∙ e)
+      (received alias now ticks st (carried (middle alias s (take 8 xs))) (map carried rest) g
+      ∙ ap (λ (v : Event). v ∷ receiveAll alias left ticks (map carried rest)) (j .event ∙ e)
       ∙ ap (λ (vs : List Event). noAnswer ∷ vs) (r ∙ ap (λ (ys : List ℕ). quietUntil rest (finish ys)) u)
       ∙ quiet-more (finish (b ++ xs)) (middle alias s (take 8 xs)) rest (rest-some alias s (drop 8 xs)))
 
@@ -181,7 +189,9 @@ module _ (alias s : ℕ) (ha : alias ≤ 4095) (hs : s ≤ 4095) (ne : s ≢ ali
             let j = first-joins 0x1A xs (omega arith) (leb-true (length xs) 8 q) in
             let e = j .event ∙ single-event (full (mid .places)) (unfinishedFor mid s) may-begin xs in
             let left : State = receive alias now st (carried (single alias s xs)) .state in
-            rw q (ap (λ (v : Event). v ∷ receiveAll alias left ticks []) e ∙ ap (λ (vs : List Event). finish xs ∷ vs) (no-more alias left ticks))
+            rw q
+            (received alias now ticks st (carried (single alias s xs)) [] g ∙ ap (λ (v : Event). v ∷ receiveAll alias left ticks []) e
+            ∙ ap (λ (vs : List Event). finish xs ∷ vs) (no-more alias left ticks))
         go false q =
             let l : 8 < length xs = omega (arith, leb-false (length xs) 8 q) in
             let m : length (take 8 xs) ≡ 8 = length-take-le 8 xs (omega arith) in
@@ -196,7 +206,8 @@ module _ (alias s : ℕ) (ha : alias ≤ 4095) (hs : s ≤ 4095) (ne : s ≢ ali
             let r = rest-joins (drop 8 xs) left (take 8 xs) ticks now (j .good) (j .sized) (j .own ∙ ap (λ (y : Entry). y .book) x)
             (turned-tick now s _ (mid .places) (left .places) a (j .turned)) (omega arith) (omega arith) p in
             rw q
-            (ap (λ (v : Event). v ∷ receiveAll alias left ticks (map carried rest)) e
+            (received alias now ticks st (carried (first alias s (take 8 xs))) (map carried rest) g
+            ∙ ap (λ (v : Event). v ∷ receiveAll alias left ticks (map carried rest)) e
             ∙ ap (λ (vs : List Event). noAnswer ∷ vs) (r ∙ ap (λ (ys : List ℕ). quietUntil rest (finish ys)) (take-append-drop 8 xs))
             ∙ quiet-more (finish xs) (first alias s (take 8 xs)) rest (rest-some alias s (drop 8 xs)))
 

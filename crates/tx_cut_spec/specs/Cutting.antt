@@ -9,9 +9,10 @@ use lib.Dec.{leb, eqb}
 use lib.ListN.{length, take, drop, replicate}
 use Rattle.can_frame.specs.declared.Frame.{Frame}
 use Rattle.can_frame.specs.Frame.{CanFrame, canFrame, headerOf, frameOf}
-use Rattle.rx_spec.specs.Ticks.{age}
+use Rattle.rx_place_spec.specs.Ticks.{age}
 use Rattle.rx_spec.specs.Books.{Book, blank, holds, swallowing, noAnswer, finish}
-use Rattle.rx_spec.specs.Reception.{State, sound, full, unfinishedFor, receiveAll}
+use Rattle.rx_place_spec.specs.State.{State}
+use Rattle.rx_spec.specs.Reception.{sound, full, unfinishedFor, receiveAll}
 
 -- ---- the frames
 

@@ -1,16 +1,17 @@
 //! Holds a board as each side has it: what a caller keeps between two frames.
 //!
-//! What is measured is a frame from its arrival to the frames that are to be sent for it, which lie
-//! in room that the caller lends, on either side. The library does that in one call. The model
-//! does it in two, as its caller would write them: it handles the frame, and then writes the
-//! transport reply and the frames of the reply. Neither side allocates, and neither hands frames on
-//! by value. Every frame comes at a time at which nothing is due, mostly at one and the same; neither
-//! side knows that.
+//! What is measured is a frame from its arrival to the frames that are to be sent for it and to what
+//! came of it, which lie in room that the caller lends, on either side. The library does that in one
+//! call, which fills in 20 bytes for what came of it. The model does it in two, as its caller would
+//! write them: it handles the frame, and then writes the transport reply and the frames of the reply.
+//! What came of it is a value of Rust's, and its caller stores that in the room. Neither side
+//! allocates, and neither hands frames or results on by value. Every frame comes at a time at which
+//! nothing is due, mostly at one and the same; neither side knows that.
 
 use std::hint::black_box;
 
-use compare::ffi::{self, Lock, Places, Pool, PLACE_BYTES};
-use compare::layout::{canonical, frame_bytes, set_place, unfinished, Held};
+use compare::ffi::{self, Numbers, Places, Pool, Registers, ResultBytes, PLACE_BYTES};
+use compare::layout::{canonical, frame_bytes, numbers_in, set_place, unfinished, Held};
 use model::{CallError, FrameAnswer, Reception, Space, Unfinished, MOST_SENT};
 
 /// A frame to be fed in.
@@ -68,11 +69,12 @@ pub struct LibraryBoard {
     table: Vec<u8>,
     flash: Vec<u8>,
     memory: Vec<u8>,
-    lock: Lock,
+    registers: Registers,
     pool: Pool,
     places: Places,
     reply: [u8; 72],
     frames: [u8; ffi::SENT_SIZE],
+    result: ResultBytes,
 }
 
 /// The board as a caller of the model keeps it.
@@ -83,7 +85,11 @@ pub struct ModelBoard {
     reception: Reception,
     reply: [u8; 72],
     frames: [model::Frame; MOST_SENT],
+    result: ModelResult,
 }
+
+/// What comes of a call to the model: the answer, and how many frames are to be sent.
+pub type ModelResult = Result<(FrameAnswer, usize), CallError>;
 
 /// The bytes of a space in a table.
 fn space_bytes(space: &Space) -> Vec<u8> {
@@ -122,31 +128,32 @@ impl LibraryBoard {
             table: blueprint.spaces.iter().flat_map(space_bytes).collect(),
             flash: blueprint.flash.clone(),
             memory: vec![0; blueprint.memory_len],
-            lock: [0; 6],
+            registers: [0; ffi::REGISTERS_SIZE],
             pool,
             places,
             reply: [0; 72],
             frames: [0; ffi::SENT_SIZE],
+            result: [0; ffi::RESULT_SIZE],
         }
     }
 
-    /// Feeds one frame in, as a driver does: what came of it, with the number of frames to be
-    /// sent, which are at the start of the room for them.
+    /// Feeds one frame in, as a driver does: what came of it is in the room for that, with the
+    /// number of frames to be sent, which are at the start of theirs.
     #[inline]
-    pub fn frame(&mut self, frame: &Incoming) -> ffi::Numbers {
-        self.frame_at(TICK, frame)
+    pub fn frame(&mut self, frame: &Incoming) {
+        self.frame_at(TICK, frame);
     }
 
     /// Feeds one frame in that comes at this tick.
     #[inline]
-    pub fn frame_at(&mut self, tick: u16, frame: &Incoming) -> ffi::Numbers {
-        let numbers = ffi::handle_frame(
+    pub fn frame_at(&mut self, tick: u16, frame: &Incoming) {
+        ffi::handle_frame(
             self.alias,
             WRITE_LENGTHS,
             black_box(&self.table),
             &self.flash,
             &mut self.memory,
-            &mut self.lock,
+            &mut self.registers,
             &mut self.pool,
             &mut self.places,
             black_box(tick),
@@ -154,15 +161,23 @@ impl LibraryBoard {
             frame.data(),
             &mut self.reply,
             &mut self.frames,
+            &mut self.result,
         );
-        black_box(&self.frames);
-        numbers
+        black_box((&self.frames, &self.result));
     }
 
     /// Brings a lone tick.
     #[inline]
-    pub fn tick(&mut self) -> ffi::Numbers {
-        ffi::handle_tick(black_box(&mut self.places), black_box(TICK))
+    pub fn tick(&mut self) {
+        let places = black_box(&mut self.places);
+        ffi::handle_tick(places, black_box(TICK), &mut self.result);
+        black_box(&self.result);
+    }
+
+    /// What came of the last call.
+    #[must_use]
+    pub fn numbers(&self) -> Numbers {
+        numbers_in(&self.result)
     }
 
     /// How many tools are unfinished.
@@ -223,28 +238,21 @@ impl ModelBoard {
             reception: Reception::from_unfinished(&begun).expect("at most eight tools"),
             reply: [0; 72],
             frames: [model::Frame::EMPTY; MOST_SENT],
+            result: Ok((FrameAnswer::Nothing, 0)),
             blueprint: blueprint.clone(),
         }
     }
 
-    /// Feeds one frame in: what came of it, and the number of frames to be sent, which are at the
-    /// start of the room for them.
-    ///
-    /// # Panics
-    ///
-    /// Where the board is refused.
+    /// Feeds one frame in: what came of it is in the room for that, with the number of frames to be
+    /// sent, which are at the start of theirs.
     #[inline]
-    pub fn frame(&mut self, frame: &Incoming) -> (FrameAnswer, usize) {
-        self.frame_at(u64::from(TICK), frame)
+    pub fn frame(&mut self, frame: &Incoming) {
+        self.frame_at(u64::from(TICK), frame);
     }
 
     /// Feeds one frame in that comes at this time.
-    ///
-    /// # Panics
-    ///
-    /// Where the board is refused.
     #[inline]
-    pub fn frame_at(&mut self, time: u64, frame: &Incoming) -> (FrameAnswer, usize) {
+    pub fn frame_at(&mut self, time: u64, frame: &Incoming) {
         let description = model::Description {
             alias: self.blueprint.alias,
             write_lengths: WRITE_LENGTHS,
@@ -261,23 +269,31 @@ impl ModelBoard {
             frame.header,
             frame.data(),
             &mut self.reply,
-        )
-        .expect("a good board");
+        );
         let count = model::frames_to_send(
             description.alias,
             frame.header,
-            Ok(answer),
+            answer,
             &self.reply,
             &mut self.frames,
         );
-        black_box(&self.frames);
-        (answer, count)
+        self.result = answer.map(|answer| (answer, count));
+        black_box((&self.frames, &self.result));
     }
 
     /// Brings a lone tick.
     #[inline]
-    pub fn tick(&mut self) -> Result<(), CallError> {
-        model::handle_time(black_box(&mut self.reception), black_box(u64::from(TICK)))
+    pub fn tick(&mut self) {
+        let reception = black_box(&mut self.reception);
+        let heard = model::handle_time(reception, black_box(u64::from(TICK)));
+        self.result = heard.map(|()| (FrameAnswer::Nothing, 0));
+        black_box(&self.result);
+    }
+
+    /// What came of the last call.
+    #[must_use]
+    pub const fn result(&self) -> ModelResult {
+        self.result
     }
 
     /// How many tools are unfinished.

@@ -11,6 +11,7 @@ use bench::measure::{measure, Figures, Subject};
 use bench::scenes::{by_others, by_spaces, on_four_spaces, swallowed_on, with_others};
 use bench::splitting::{chunk, split_by_library, split_by_model};
 use compare::ffi;
+use compare::layout::parsed_in;
 
 /// The library is to take no longer than the model.
 const GOAL: f64 = 1.0;
@@ -112,6 +113,9 @@ fn smaller_calls() -> Vec<Subject<'static>> {
     const LINE: &[u8] = b":X1A22B123N200100000002ABCD;";
     const SHORT_LINE: &[u8] = b":X1A22B123N2080;";
     let mut room = [0; ffi::SENT_SIZE];
+    let mut model_room = [model::Frame::EMPTY; model::MOST_FRAMES];
+    let mut parsed = [0; ffi::PARSED_SIZE];
+    let mut model_parsed = None;
     vec![
         cut("cut of 70 bytes", &REPLY),
         cut("cut of 8 bytes", &REPLY[..8]),
@@ -119,13 +123,17 @@ fn smaller_calls() -> Vec<Subject<'static>> {
             RECEIVED_OK,
             1,
             repeat(move || ffi::received_ok(black_box(BOARD), TOOL, 0x80, black_box(&mut room))),
-            repeat(|| model::received_ok_frame(black_box(BOARD), TOOL, 0x80)),
+            repeat(move || {
+                let room = black_box(&mut model_room);
+                room[0] = model::received_ok_frame(black_box(BOARD), TOOL, 0x80);
+                1
+            }),
         ),
         Subject::new(
             "line with 8 bytes of data read",
             1,
-            repeat(|| ffi::parse_line(black_box(LINE))),
-            repeat(|| model::parse_line(black_box(LINE))),
+            repeat(move || ffi::parse_line(black_box(LINE), black_box(&mut parsed))),
+            repeat(move || *black_box(&mut model_parsed) = model::parse_line(black_box(LINE))),
         ),
         print("line with 8 bytes of data printed", LINE),
         print("line with 2 bytes of data printed", SHORT_LINE),
@@ -159,14 +167,16 @@ fn cut(name: &str, datagram: &'static [u8]) -> Subject<'static> {
 /// The frame of a line printed, on either side into a lent buffer. The library puts a newline
 /// behind it and looks whether there is room for it; the model's buffer has room for any line.
 fn print(name: &str, line: &[u8]) -> Subject<'static> {
-    let frame = ffi::parse_line(line).frame;
+    let mut parsed = [0; ffi::PARSED_SIZE];
+    ffi::parse_line(line, &mut parsed);
+    let frame = parsed_in(&parsed).frame;
     let model_frame = model::parse_line(line).expect("a good line");
     let mut out = [0; 29];
     let mut model_out = [0; model::LONGEST_LINE];
     Subject::new(
         name,
         1,
-        repeat(move || ffi::print_frame(black_box(frame), black_box(&mut out), 0)),
+        repeat(move || ffi::print_frame(black_box(&frame), black_box(&mut out), 0)),
         repeat(move || model::print_line(black_box(&model_frame), black_box(&mut model_out)).len()),
     )
 }

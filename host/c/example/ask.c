@@ -18,12 +18,12 @@
 
 /* ---- Sending ---- */
 
-static void send_frames(const struct bujorelm_frame *frames, size_t count)
+static void send_frames(const struct bujorelm_frame *frames, uint64_t count)
 {
     uint8_t line[BUJORELM_PRINTED_MAX];
 
-    for (size_t i = 0; i < count; i++) {
-        fwrite(line, 1, bujorelm_print_frame(frames[i], line, sizeof line, 0), stdout);
+    for (uint64_t i = 0; i < count; i++) {
+        fwrite(line, 1, (size_t)bujorelm_print_frame(&frames[i], line, sizeof line, 0), stdout);
     }
     fflush(stdout);
 }
@@ -33,8 +33,9 @@ static bool ask(uint8_t space, uint32_t address, size_t count)
 {
     uint8_t command[BUJORELM_COMMAND_MIN];
     struct bujorelm_frame frames[BUJORELM_SENT_MAX];
-    const struct bujorelm_composed composed = bujorelm_compose_read(space, address, count, command, sizeof command);
+    struct bujorelm_composed composed;
 
+    bujorelm_compose_read(space, address, count, command, sizeof command, &composed);
     if (composed.refusal == BUJORELM_REFUSAL_W1) {
         fprintf(stderr, "W1: a read asks for 1 to 64 bytes, not %zu\n", count);
         return false;
@@ -53,39 +54,42 @@ static bool ask(uint8_t space, uint32_t address, size_t count)
 static uint8_t pool[BUJORELM_POOL_SIZE];
 static struct bujorelm_reception reception;
 
-static void print_bytes(const uint8_t *bytes, size_t len)
+static void print_bytes(const uint8_t *bytes, uint64_t len)
 {
-    for (size_t i = 0; i < len; i++) {
+    for (uint64_t i = 0; i < len; i++) {
         fprintf(stderr, " %02X", bytes[i]);
     }
     fprintf(stderr, "\n");
 }
 
 /* The content of Received OK. Returns whether there is more to wait for. */
-static bool take_received_ok(const uint8_t *content, size_t len)
+static bool take_received_ok(const uint8_t *content, uint64_t len)
 {
-    const struct bujorelm_acknowledged ok = bujorelm_read_received_ok(content, len);
+    struct bujorelm_acknowledged ok;
 
-    fprintf(stderr, "Received OK: refusal %d, pending %d, timeout %u\n", ok.refusal, ok.pending, ok.timeout);
+    bujorelm_read_received_ok(content, len, &ok);
+    fprintf(stderr, "Received OK: refusal %u, pending %d, timeout %u\n", (unsigned)ok.refusal, ok.pending, ok.timeout);
     return ok.pending;
 }
 
 /* The content of Rejected, behind which nothing comes. */
-static bool take_rejected(const uint8_t *content, size_t len)
+static bool take_rejected(const uint8_t *content, uint64_t len)
 {
-    const struct bujorelm_rejection rejection = bujorelm_read_rejected(content, len);
+    struct bujorelm_rejection rejection;
 
-    fprintf(stderr, "Rejected: refusal %d, code 0x%04X, behind it:", rejection.refusal, rejection.code);
+    bujorelm_read_rejected(content, len, &rejection);
+    fprintf(stderr, "Rejected: refusal %u, code 0x%04X, behind it:", (unsigned)rejection.refusal, rejection.code);
     print_bytes(content + rejection.further.start, rejection.further.len);
     return false;
 }
 
 /* A whole datagram. The board is told that it has come. */
-static bool take_datagram(const uint8_t *datagram, size_t len)
+static bool take_datagram(const uint8_t *datagram, uint64_t len)
 {
     struct bujorelm_frame frames[BUJORELM_SENT_MAX];
-    const struct bujorelm_reply reply = bujorelm_read_reply(datagram, len);
+    struct bujorelm_reply reply;
 
+    bujorelm_read_reply(datagram, len, &reply);
     send_frames(frames, bujorelm_received_ok(TOOL, BOARD, BUJORELM_FLAGS_NONE, frames));
     switch (reply.kind) {
     case BUJORELM_REPLY_READ:
@@ -127,7 +131,7 @@ static bool take_frame(const struct bujorelm_frame *frame)
     if (message == REJECTED) {
         return !is_for_tool(frame) || take_rejected(frame->bytes + 2, frame->len - 2);
     }
-    joined = bujorelm_join(TOOL, pool, &reception, frame->header, frame->bytes, frame->len);
+    bujorelm_join(TOOL, pool, &reception, frame->header, frame->bytes, frame->len, &joined);
     if (joined.kind == BUJORELM_JOINED_IN_FRAME) {
         return take_datagram(frame->bytes, frame->len);
     }
@@ -140,6 +144,7 @@ static bool take_frame(const struct bujorelm_frame *frame)
 int main(void)
 {
     struct bujorelm_carry carry = {0};
+    struct bujorelm_line line;
     bool waiting = true;
     int next;
 
@@ -152,9 +157,8 @@ int main(void)
     }
     while (waiting && (next = getchar()) != EOF) {
         const uint8_t byte = (uint8_t)next;
-        const struct bujorelm_line line = bujorelm_next_line(&byte, 1, 0, carry);
 
-        carry = line.carry;
+        (void)bujorelm_next_line(&byte, 1, 0, &carry, &line);
         if (line.complete && line.parsed.good) {
             waiting = take_frame(&line.parsed.frame);
         }

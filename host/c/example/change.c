@@ -19,16 +19,18 @@ struct image {
 };
 
 /* A change has 1 to 32 pairs, so that its command is never refused. */
-static void send_masked_write(uint8_t space, uint32_t address, const uint8_t *pairs, size_t count)
+static void send_masked_write(uint8_t space, uint32_t address, const uint8_t *pairs, uint64_t count)
 {
     uint8_t command[BUJORELM_COMMAND_MIN];
     uint8_t line[BUJORELM_PRINTED_MAX];
     struct bujorelm_frame frames[BUJORELM_SENT_MAX];
-    const size_t len = bujorelm_compose_masked_write(space, address, pairs, 2 * count, command, sizeof command).len;
-    const size_t made = bujorelm_cut(command, len, TOOL, BOARD, frames);
+    struct bujorelm_composed composed;
+    uint64_t made;
 
-    for (size_t i = 0; i < made; i++) {
-        fwrite(line, 1, bujorelm_print_frame(frames[i], line, sizeof line, 0), stdout);
+    bujorelm_compose_masked_write(space, address, pairs, 2 * count, command, sizeof command, &composed);
+    made = bujorelm_cut(command, composed.len, TOOL, BOARD, frames);
+    for (uint64_t i = 0; i < made; i++) {
+        fwrite(line, 1, (size_t)bujorelm_print_frame(&frames[i], line, sizeof line, 0), stdout);
     }
 }
 
@@ -36,8 +38,9 @@ static void send_masked_write(uint8_t space, uint32_t address, const uint8_t *pa
 static int send_changes(uint8_t space, uint32_t address, const struct image *before, const struct image *after)
 {
     uint8_t pairs[BUJORELM_PAIRS_MIN];
-    struct bujorelm_change change = bujorelm_next_change(before->bytes, before->len, after->bytes, after->len, 0, pairs, sizeof pairs);
+    struct bujorelm_change change;
 
+    bujorelm_next_change(before->bytes, before->len, after->bytes, after->len, 0, pairs, sizeof pairs, &change);
     if (change.refusal != BUJORELM_CHANGE_NOT_REFUSED) {
         fprintf(stderr, "refused: images of %zu and %zu bytes, and %zu bytes for the pairs\n", before->len, after->len, sizeof pairs);
         return 2;
@@ -46,10 +49,10 @@ static int send_changes(uint8_t space, uint32_t address, const struct image *bef
         fprintf(stderr, "nothing differs, and nothing is sent\n");
     }
     while (change.given) {
-        const size_t next = change.start + change.count;
+        const uint64_t next = change.start + change.count;
 
         send_masked_write(space, address + (uint32_t)change.start, pairs, change.count);
-        change = bujorelm_next_change(before->bytes, before->len, after->bytes, after->len, next, pairs, sizeof pairs);
+        bujorelm_next_change(before->bytes, before->len, after->bytes, after->len, next, pairs, sizeof pairs, &change);
     }
     return 0;
 }

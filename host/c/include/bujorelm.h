@@ -1,14 +1,13 @@
 /*
  * bujorelm.h - the board's side of OpenLCB memory configuration, for a CAN driver in C.
  *
- * Platform:  x86-64 with the System V calling convention, as on Linux.
- * Toolchain: Rattle, in the version that docs/ASSUMPTIONS.md names; the archive is built by `rt staticlib bujorelm`.
+ * Processors: x86-64 with the System V calling convention, as on Linux; Arm Cortex-M0 to M7; RISC-V RV32IMC.
+ * Toolchain:  Rattle, in the version that docs/ASSUMPTIONS.md names. `rt staticlib bujorelm` builds the archive for
+ *             x86-64, and firmware/build those for the others, which docs/FIRMWARE.md explains.
  *
- * The archive libbujorelm.a holds machine code for x86-64 and for nothing else today. It cannot be linked into the
- * firmware of a board with another processor, such as an ARM Cortex-M: that needs a backend of the toolchain for that
- * processor, and then the layout below has to be held against that backend's. Until then the library serves boards and
- * gateways that are x86-64 machines, and tests on a PC. The compiler is stopped below where the platform or the layout
- * of a struct is not the library's.
+ * This header is the same for every processor: what is lent has the same bytes everywhere, with pointers of 4 bytes and
+ * of 8. The compiler is stopped below where the processor is not one that was tried, or the layout of a struct is not
+ * the library's.
  *
  * The library joins the datagram frames that a board receives, handles each finished datagram, and gives the frames that the board sends
  * back. "Document 01" below is the paper that fixes its behaviour, and "C-14" and "C-15" the change requests of these names in document 02, which
@@ -23,9 +22,13 @@
  * - All that a board has is lent, and changed in place. Of what is lent as `const` no byte is written. Nothing past a buffer's length is
  *   read or written.
  * - A buffer of any length is a pointer and then its length. Where the length is 0 the pointer is not used and may be NULL.
- * - What has one size is a pointer alone: the lock memory (6 bytes), the pool (576), the reception state (64), the room for frames (ten
- *   of 16 bytes, in every function that makes some). Such a pointer is never NULL, and leads to all of that size in every call, also in one
- *   that is refused or does not use it: there is no length that could say that it is empty.
+ * - What has one size is a pointer alone: the registers (6 bytes), the pool (576), the reception state (64), the room for frames (ten
+ *   of 16 bytes, in every function that makes some), and every other struct. Such a pointer is never NULL, and leads to all of that size in
+ *   every call, also in one that is refused or does not use it: there is no length that could say that it is empty.
+ * - What comes of a call in more than a number is put into a struct that is lent as the last parameter. Every call fills in all of its bytes,
+ *   also one that is refused; what it held before plays no part, and padding and bytes that are not used come back as zero. No function takes
+ *   or returns a struct by value but the inline functions at the end.
+ * - Lengths and indices of the library's functions have 64 bits on every processor.
  * - What is lent and not `const` must not overlap with anything else that the same call is lent. Two `const` buffers may overlap.
  * - The library sees what it is lent as bytes, and takes every value of every byte: one that says yes or no is no where it is 0 and yes where
  *   it is anything else, and the bytes that are said to mean nothing may hold anything. Numbers of several bytes have the least significant
@@ -36,13 +39,25 @@
 #ifndef BUJORELM_H
 #define BUJORELM_H
 
+/* The processors for which the library was built and tried, with their calling conventions: a line for each. On any other the compiler stops
+   here, since nobody has seen the library work there. BUJORELM_BUILT_FOR is in the archive for the one processor and in no other:
+   bujorelm_version_fits asks for it, so that a program is not linked with the archive for another. */
+#if defined(__x86_64__) && !defined(__ILP32__) && !defined(_WIN32) /* System V, as on Linux */
+#elif defined(__ARM_ARCH_6M__) && defined(__ARM_EABI__) /* Cortex-M0, M0+ */
+#define BUJORELM_BUILT_FOR bujorelm_built_for_thumbv6m
+#elif defined(__ARM_ARCH_7M__) && defined(__ARM_EABI__) /* Cortex-M3 */
+#define BUJORELM_BUILT_FOR bujorelm_built_for_thumbv7m
+#elif defined(__ARM_ARCH_7EM__) && defined(__ARM_EABI__) /* Cortex-M4, M7 */
+#define BUJORELM_BUILT_FOR bujorelm_built_for_thumbv7em
+#elif defined(__riscv) && __riscv_xlen == 32 && defined(__riscv_mul) && defined(__riscv_compressed) && !defined(__riscv_32e) /* RV32IMC */
+#define BUJORELM_BUILT_FOR bujorelm_built_for_riscv32
+#else
+#error "libbujorelm.a is for x86-64 (System V calling convention), Arm Cortex-M0 to M7 and RISC-V RV32IMC only"
+#endif
+
 #include <stdbool.h>
 #include <stddef.h>
 #include <stdint.h>
-
-#if !defined(__x86_64__) || defined(_WIN32)
-#error "libbujorelm.a is for x86-64 with the System V calling convention only"
-#endif
 
 #ifdef __cplusplus
 extern "C" {
@@ -104,7 +119,7 @@ extern "C" {
    brings a tick and is not refused, of whatever kind it then is, has first freed the places that were too old. */
 enum bujorelm_kind {
     /* Refused because of what the caller handed in; `error` says why, and `position` which space is wrong. Nothing is
-       sent and nothing has changed: no place is freed for its age either. */
+       sent, and nothing has changed but the result: no place is freed for its age either. */
     BUJORELM_REFUSED = 0,
     /* Not a frame for this board: another header, another destination, the board's own alias as source, a header over 29 bits, data
        over 8 bytes. Nothing is sent, and nothing has changed but that places that were too old are free. */
@@ -238,9 +253,10 @@ struct bujorelm_description {
     const struct bujorelm_space *spaces;
 };
 
-/* The lock memory: zero at the start, afterwards as each call leaves it. It is set by Lock/Reserve (0x88) and changes nothing else. */
-struct bujorelm_lock {
-    uint8_t bytes[6];
+/* The registers: what a datagram may change besides memory. All zero at the start, afterwards as each call leaves them. They are the lock memory
+   alone today, which is set by Lock/Reserve (0x88) and changes nothing else. */
+struct bujorelm_registers {
+    uint8_t lock[6];
 };
 
 /* A place for one source: whether it is held (any byte but 0), how many bytes of the source's unfinished datagram have come, the source's
@@ -269,8 +285,9 @@ struct bujorelm_reception {
 /* What came of a call. A number that its kind does not name is 0, but for `frame_count`, which is 0 exactly where nothing is sent, and for
    `position`, which is BUJORELM_NO_POSITION. */
 struct bujorelm_result {
-    enum bujorelm_kind kind;
-    /* Of Rejected: an enum bujorelm_code. */
+    /* An enum bujorelm_kind, for which bujorelm_kind_of is there. */
+    uint32_t kind;
+    /* Of Rejected: an enum bujorelm_code, for which bujorelm_code_of is there. */
     uint16_t code;
     /* Of BUJORELM_REFUSED: an enum bujorelm_error, for which bujorelm_error_of is there. */
     uint8_t error;
@@ -278,7 +295,7 @@ struct bujorelm_result {
     uint8_t flags;
     /* Of BUJORELM_WRITTEN: the index in memory of the first byte that was written, and how many were, 1 to 64. */
     uint32_t changed_at;
-    uint8_t changed_len;
+    uint32_t changed_len;
     /* Of BUJORELM_REPLIED: how many bytes of the reply buffer are the reply, 1 to 72. */
     uint8_t reply_len;
     /* How many frames bujorelm_handle_frame gives to be sent, 0 to 10. Always 0 from bujorelm_handle_datagram and bujorelm_handle_tick. */
@@ -286,6 +303,8 @@ struct bujorelm_result {
     /* Of BUJORELM_REFUSED with B2 to B5: the position of the refused space in the table, 0 to 15, 0 for the first. In every other result it
        is BUJORELM_NO_POSITION, and never 0. bujorelm_position_of tells the two apart. */
     uint8_t position;
+    /* Always 0. */
+    uint8_t unused;
 };
 
 /* A line that was read. Where it is not `good` the frame is all zero. */
@@ -303,13 +322,11 @@ struct bujorelm_carry {
     uint8_t unused[2];
 };
 
-/* A step through a chunk of input: whether a line ended, what it is, what to hand to the next step, and the index up to which the chunk is
-   read. Where no line ended `parsed` is not good and its frame is all zero. */
+/* What a step through a chunk of input has found: whether a line ended, and what it is. Where no line ended `parsed` is not good and its frame is
+   all zero. */
 struct bujorelm_line {
     bool complete;
     struct bujorelm_parsed parsed;
-    struct bujorelm_carry carry;
-    size_t at;
 };
 
 /* ---- The layout, held to the library's ---- */
@@ -325,9 +342,6 @@ struct bujorelm_line {
 #define BUJORELM_SIZE(type, size) BUJORELM_ASSERT(type##_size, sizeof(struct bujorelm_##type) == (size))
 
 BUJORELM_ASSERT(bool_is_a_byte, sizeof(bool) == 1);
-BUJORELM_ASSERT(size_t_has_8_bytes, sizeof(size_t) == 8);
-BUJORELM_ASSERT(pointers_have_8_bytes, sizeof(void *) == 8);
-BUJORELM_ASSERT(kinds_have_4_bytes, sizeof(enum bujorelm_kind) == 4);
 
 BUJORELM_SIZE(frame, 16);
 BUJORELM_AT(frame, header, 0);
@@ -342,8 +356,8 @@ BUJORELM_AT(space, lowest, 4);
 BUJORELM_AT(space, highest, 8);
 BUJORELM_AT(space, offset, 12);
 
-BUJORELM_SIZE(lock, 6);
-BUJORELM_AT(lock, bytes, 0);
+BUJORELM_SIZE(registers, 6);
+BUJORELM_AT(registers, lock, 0);
 
 BUJORELM_SIZE(place, 8);
 BUJORELM_AT(place, held, 0);
@@ -356,16 +370,17 @@ BUJORELM_AT(place, unused, 7);
 BUJORELM_SIZE(reception, 64);
 BUJORELM_AT(reception, places, 0);
 
-BUJORELM_SIZE(result, 16);
+BUJORELM_SIZE(result, 20);
 BUJORELM_AT(result, kind, 0);
 BUJORELM_AT(result, code, 4);
 BUJORELM_AT(result, error, 6);
 BUJORELM_AT(result, flags, 7);
 BUJORELM_AT(result, changed_at, 8);
 BUJORELM_AT(result, changed_len, 12);
-BUJORELM_AT(result, reply_len, 13);
-BUJORELM_AT(result, frame_count, 14);
-BUJORELM_AT(result, position, 15);
+BUJORELM_AT(result, reply_len, 16);
+BUJORELM_AT(result, frame_count, 17);
+BUJORELM_AT(result, position, 18);
+BUJORELM_AT(result, unused, 19);
 
 BUJORELM_SIZE(parsed, 20);
 BUJORELM_AT(parsed, good, 0);
@@ -376,17 +391,17 @@ BUJORELM_AT(carry, len, 0);
 BUJORELM_AT(carry, text, 1);
 BUJORELM_AT(carry, unused, 30);
 
-BUJORELM_SIZE(line, 64);
+BUJORELM_SIZE(line, 24);
 BUJORELM_AT(line, complete, 0);
 BUJORELM_AT(line, parsed, 4);
-BUJORELM_AT(line, carry, 24);
-BUJORELM_AT(line, at, 56);
 
 #if defined(__BYTE_ORDER__) && defined(__ORDER_LITTLE_ENDIAN__)
 BUJORELM_ASSERT(least_significant_byte_first, __BYTE_ORDER__ == __ORDER_LITTLE_ENDIAN__);
 #endif
 
-/* The macros of the assertions are used once more below, for the struct that the inline functions work on. */
+#undef BUJORELM_SIZE
+#undef BUJORELM_AT
+#undef BUJORELM_ASSERT
 
 /* ---- Functions of the library ---- */
 
@@ -437,7 +452,7 @@ uint32_t bujorelm_version(void);
  * spaces_size    its size in bytes, 16 for each space: bujorelm_spaces_size(count). Bytes behind the last whole space are no space
  * flash          lent; what spaces in flash read from
  * memory         lent; what the other spaces read from and write to
- * lock           lent; the lock memory
+ * registers      lent; the lock memory
  * pool           lent, 576 bytes: the bytes of unfinished datagrams. Keep them as they are between calls
  * reception      lent; the reception state. Keep it as it is between calls
  * tick           the driver's tick now
@@ -445,8 +460,9 @@ uint32_t bujorelm_version(void);
  * payload        lent; the frame's data. Any length may be handed in: a frame of over 8 bytes is ignored
  * reply          lent, at least 72 bytes. It need not be cleared, and nothing of it is needed after the call: its bytes are in the frames
  * frames         lent, room for ten. It need not be cleared
+ * result         lent; it is filled in whatever comes of the call
  *
- * Comes back: every kind. frames[0] to frames[frame_count - 1] are to be sent in their order, to the alias in the low twelve bits of the
+ * Comes back in `result`: every kind. frames[0] to frames[frame_count - 1] are to be sent in their order, to the alias in the low twelve bits of the
  * header, which they carry already: none for BUJORELM_REFUSED, BUJORELM_IGNORED and BUJORELM_JOINED; Rejected for
  * BUJORELM_TRANSPORT_REFUSAL and BUJORELM_REJECTED; Received OK for BUJORELM_WRITTEN and BUJORELM_UPDATE_COMPLETE; Received OK and then 1
  * to 9 frames of the reply for BUJORELM_REPLIED.
@@ -454,14 +470,14 @@ uint32_t bujorelm_version(void);
  * What never happens: a byte of memory changes for any kind but BUJORELM_WRITTEN, or outside the bytes that it names; a byte of the lock
  * changes but by a Lock/Reserve that is replied to; a byte of the reply buffer is written for any kind but BUJORELM_REPLIED, or behind its
  * first `reply_len`; a byte of `frames` is written behind the first `frame_count`; a byte of the pool changes by a frame that is swallowed or
- * gets a transport refusal; any byte of anything changes for BUJORELM_REFUSED, or for BUJORELM_IGNORED but in the places that were too old.
+ * gets a transport refusal; any byte of anything but `result` changes for BUJORELM_REFUSED, or for BUJORELM_IGNORED but in the places that were
+ * too old.
  */
-struct bujorelm_result bujorelm_handle_frame(uint16_t alias, uint8_t write_lengths, const struct bujorelm_space *spaces,
-                                             size_t spaces_size, const uint8_t *flash, size_t flash_len, uint8_t *memory,
-                                             size_t memory_len, struct bujorelm_lock *lock, uint8_t *pool,
-                                             struct bujorelm_reception *reception, uint16_t tick, uint32_t header,
-                                             const uint8_t *payload, size_t payload_len, uint8_t *reply, size_t reply_len,
-                                             struct bujorelm_frame *frames);
+void bujorelm_handle_frame(uint16_t alias, uint8_t write_lengths, const struct bujorelm_space *spaces, uint64_t spaces_size,
+                           const uint8_t *flash, uint64_t flash_len, uint8_t *memory, uint64_t memory_len,
+                           struct bujorelm_registers *registers, uint8_t *pool, struct bujorelm_reception *reception, uint16_t tick,
+                           uint32_t header, const uint8_t *payload, uint64_t payload_len, uint8_t *reply, uint64_t reply_len,
+                           struct bujorelm_frame *frames, struct bujorelm_result *result);
 
 /*
  * Brings a tick alone, for the time in which no frame comes: frees the places that are too old, and does nothing else. The pool is not needed
@@ -469,13 +485,14 @@ struct bujorelm_result bujorelm_handle_frame(uint16_t alias, uint8_t write_lengt
  *
  * reception      lent; the reception state
  * tick           the driver's tick now, by the same count as in bujorelm_handle_frame
+ * result         lent; it is filled in whatever comes of the call
  *
- * Comes back: BUJORELM_REFUSED with B7, the only error that is tested here, and then nothing has changed; or else
- * BUJORELM_JOINED, whether or not any place was freed. Nothing is to be sent.
+ * Comes back in `result`: BUJORELM_REFUSED with B7, the only error that is tested here, and then no place has changed; or else BUJORELM_JOINED,
+ * whether or not any place was freed. Nothing is to be sent.
  *
  * What never happens: a byte of a place changes that is not held, or that is not too old.
  */
-struct bujorelm_result bujorelm_handle_tick(struct bujorelm_reception *reception, uint16_t tick);
+void bujorelm_handle_tick(struct bujorelm_reception *reception, uint16_t tick, struct bujorelm_result *result);
 
 /*
  * Handles a datagram that some other transport has joined already. It needs no reception state, no pool and no room for frames; the rest is
@@ -483,54 +500,58 @@ struct bujorelm_result bujorelm_handle_tick(struct bujorelm_reception *reception
  *
  * datagram       lent; any length may be handed in: one over 72 bytes is rejected with 0x1080
  *
- * Comes back: BUJORELM_REFUSED (any but B7), BUJORELM_REJECTED, BUJORELM_WRITTEN, BUJORELM_REPLIED or BUJORELM_UPDATE_COMPLETE, with
+ * Comes back in `result`: BUJORELM_REFUSED (any but B7), BUJORELM_REJECTED, BUJORELM_WRITTEN, BUJORELM_REPLIED or BUJORELM_UPDATE_COMPLETE, with
  * `frame_count` 0. The answer is the caller's to send: bujorelm_rejected or bujorelm_received_ok, and the reply by bujorelm_cut.
  */
-struct bujorelm_result bujorelm_handle_datagram(uint16_t alias, uint8_t write_lengths, const struct bujorelm_space *spaces,
-                                                size_t spaces_size, const uint8_t *flash, size_t flash_len, uint8_t *memory,
-                                                size_t memory_len, struct bujorelm_lock *lock, const uint8_t *datagram,
-                                                size_t datagram_len, uint8_t *reply, size_t reply_len);
+void bujorelm_handle_datagram(uint16_t alias, uint8_t write_lengths, const struct bujorelm_space *spaces, uint64_t spaces_size,
+                              const uint8_t *flash, uint64_t flash_len, uint8_t *memory, uint64_t memory_len,
+                              struct bujorelm_registers *registers, const uint8_t *datagram, uint64_t datagram_len, uint8_t *reply,
+                              uint64_t reply_len, struct bujorelm_result *result);
 
 /* Cuts a datagram into the frames that take it from the board to the tool. The datagram is lent, and so is `frames`,
    with room for ten. Returns how many were made, 1 to 9, to be sent in their order; the room behind them is left as it
    was. Refused, by B9, where the datagram has more than 72 bytes or an alias is over 4,095: then it returns 0, and
    `frames` is untouched. No other error is tested. */
-size_t bujorelm_cut(const uint8_t *datagram, size_t datagram_len, uint16_t board, uint16_t tool, struct bujorelm_frame *frames);
+uint64_t bujorelm_cut(const uint8_t *datagram, uint64_t datagram_len, uint16_t board, uint16_t tool, struct bujorelm_frame *frames);
 
 /* Makes the frame of Received OK with its flags, from the board's alias to the tool's, and returns 1. `frames` is lent, with room for ten,
    as everywhere; what is behind the first is untouched. Where an alias is over 4,095 there is no such frame: then it returns 0 and all of
    `frames` is untouched. It never returns anything else. */
-size_t bujorelm_received_ok(uint16_t board, uint16_t tool, uint8_t flags, struct bujorelm_frame *frames);
+uint64_t bujorelm_received_ok(uint16_t board, uint16_t tool, uint8_t flags, struct bujorelm_frame *frames);
 
 /* The same for the frame of Rejected with its code. */
-size_t bujorelm_rejected(uint16_t board, uint16_t tool, uint16_t code, struct bujorelm_frame *frames);
+uint64_t bujorelm_rejected(uint16_t board, uint16_t tool, uint16_t code, struct bujorelm_frame *frames);
 
 /* Reads a GridConnect line, which is lent without its newline: `:X`, eight header digits, `N`, 0 to 16 data digits in pairs, `;`, the
-   digits being 0-9 and A-F. Any other text of any length is not good, and its frame is all zero. Headers over 29 bits are good here and are
-   ignored by bujorelm_handle_frame. */
-struct bujorelm_parsed bujorelm_parse_line(const uint8_t *line, size_t line_len);
+   digits being 0-9 and A-F. What it is comes back in `parsed`, which is lent. Any other text of any length is not good, and its frame is all
+   zero. Headers over 29 bits are good here and are ignored by bujorelm_handle_frame. */
+void bujorelm_parse_line(const uint8_t *line, uint64_t line_len, struct bujorelm_parsed *parsed);
 
-/* Prints a frame as a GridConnect line with its newline into `out`, which is lent, from index `at` on, and returns the index behind it.
-   Where the line does not fit, or the frame's `len` is over 8, nothing is written and `at` is returned. No byte outside the line is
+/* Prints a frame, which is lent, as a GridConnect line with its newline into `out`, which is lent, from index `at` on, and returns the index
+   behind it. Where the line does not fit, or the frame's `len` is over 8, nothing is written and `at` is returned. No byte outside the line is
    written, and no zero byte is put behind it. */
-size_t bujorelm_print_frame(struct bujorelm_frame frame, uint8_t *out, size_t out_len, size_t at);
+uint64_t bujorelm_print_frame(const struct bujorelm_frame *frame, uint8_t *out, uint64_t out_len, uint64_t at);
 
 /*
  * The line splitter: an input that comes in chunks, cut anyhow, is read line by line. Reads the chunk, which is lent, from index `from` on,
  * up to and including the next newline or else to its end; a `from` past the end is like the end.
  *
- * Comes back: `complete` says whether a line ended, and then `parsed` says what it is: not good for any text that is no frame's line,
- * however long. `carry` is to be handed to the next call, also to the first one for the next chunk; `at` is the index up to which the chunk
- * is read, and is to be handed in as `from`. It is past `from` unless `from` was the end, so that a loop while `at` is below `chunk_len`
- * ends.
+ * carry  lent; the beginning of a line that earlier calls have left, and then the one that this call leaves. Keep it as it is between calls, also
+ *        from one chunk to the next
+ * line   lent; it is filled in whether or not a line ended
+ *
+ * Returns the index up to which the chunk is read, to be handed in as `from`. It is past `from` unless `from` was the end or past it, where it is
+ * the end, so that a loop while it is below `chunk_len` ends. In `line`, `complete` says whether a line ended, and then `parsed` says what it is:
+ * not good for any text that is no frame's line, however long.
  *
  * What never happens: how the input is cut into chunks changes what its lines are.
  */
-struct bujorelm_line bujorelm_next_line(const uint8_t *chunk, size_t chunk_len, size_t from, struct bujorelm_carry carry);
+uint64_t bujorelm_next_line(const uint8_t *chunk, uint64_t chunk_len, uint64_t from, struct bujorelm_carry *carry,
+                            struct bujorelm_line *line);
 
-/* The end of the input: a last line that lacks its newline is a line, and nothing left is none. `carry` is all zero afterwards, and `at` is
-   0. */
-struct bujorelm_line bujorelm_last_line(struct bujorelm_carry carry);
+/* The end of the input: a last line that lacks its newline is a line, and nothing left is none. The carry is lent, and all zero afterwards; what
+   was left comes back in `line`, which is lent. */
+void bujorelm_last_line(struct bujorelm_carry *carry, struct bujorelm_line *line);
 
 /* ---- Inline functions, which hand over a board that lies in one struct ---- */
 
@@ -546,34 +567,12 @@ struct bujorelm_node {
     size_t flash_len;
     uint8_t *memory;
     size_t memory_len;
-    struct bujorelm_lock lock;
+    struct bujorelm_registers registers;
     struct bujorelm_reception reception;
     uint8_t pool[BUJORELM_POOL_SIZE];
     uint8_t reply[BUJORELM_REPLY_MIN];
     struct bujorelm_frame frames[BUJORELM_SENT_MAX];
 };
-
-BUJORELM_SIZE(description, 24);
-BUJORELM_AT(description, alias, 0);
-BUJORELM_AT(description, write_lengths, 2);
-BUJORELM_AT(description, count, 8);
-BUJORELM_AT(description, spaces, 16);
-
-BUJORELM_SIZE(node, 936);
-BUJORELM_AT(node, description, 0);
-BUJORELM_AT(node, flash, 24);
-BUJORELM_AT(node, flash_len, 32);
-BUJORELM_AT(node, memory, 40);
-BUJORELM_AT(node, memory_len, 48);
-BUJORELM_AT(node, lock, 56);
-BUJORELM_AT(node, reception, 62);
-BUJORELM_AT(node, pool, 126);
-BUJORELM_AT(node, reply, 702);
-BUJORELM_AT(node, frames, 776);
-
-#undef BUJORELM_SIZE
-#undef BUJORELM_AT
-#undef BUJORELM_ASSERT
 
 /* Takes a frame to be sent. It is called with the frames in the order in which they must go out on the bus. The frame is lent for the call
    alone. Returns false where the frame cannot be taken; the ones behind it are then not offered. */
@@ -586,10 +585,26 @@ static inline bool bujorelm_versions_fit(uint32_t header, uint32_t archive)
     return archive - header <= 0xFFFFu - (header & 0xFFFFu);
 }
 
-/* Whether the archive that the program is linked with fits this header: a test for the start of the firmware, before any other call. */
+#ifdef BUJORELM_BUILT_FOR
+extern const uint8_t BUJORELM_BUILT_FOR;
+#endif
+
+/* Whether the archive that the program is linked with fits this header: a test for the start of the firmware, before any other call. A program
+   that calls it and is given the archive for another processor is not linked: the linker says that bujorelm_built_for_.. is missing. */
 static inline bool bujorelm_version_fits(void)
 {
+#ifdef BUJORELM_BUILT_FOR
+    if (BUJORELM_BUILT_FOR == 0) {
+        return false;
+    }
+#endif
     return bujorelm_versions_fit(BUJORELM_VERSION, bujorelm_version());
+}
+
+/* The kind of a result, for a `switch`. */
+static inline enum bujorelm_kind bujorelm_kind_of(struct bujorelm_result result)
+{
+    return (enum bujorelm_kind)result.kind;
 }
 
 /* The caller's error in a result, for a `switch`. */
@@ -630,18 +645,19 @@ static inline uint16_t bujorelm_source_of(uint32_t header)
 
 /* The size in bytes of a table of so many spaces, for a call's `spaces_size`. Any count over 16 gives the size of 17 spaces, which B11
    refuses without a look at the table: 16 times a very large count would wrap, and could come out as the size of a good table. */
-static inline size_t bujorelm_spaces_size(size_t count)
+static inline uint64_t bujorelm_spaces_size(size_t count)
 {
     const size_t most = BUJORELM_SPACES_MAX + 1u;
 
     return (count < most ? count : most) * sizeof(struct bujorelm_space);
 }
 
-/* A fresh node: lock memory zero, nothing unfinished. The description is copied, but for the table of spaces; flash and memory are not.
+/* A fresh node: registers all zero, nothing unfinished. The description is copied, but for the table of spaces; flash and memory are not.
    Nothing is tested here: a bad description is refused at the first call. What the reply buffer and the room for frames hold is left. */
 static inline void bujorelm_node_start(struct bujorelm_node *node, const struct bujorelm_description *description,
                                        const uint8_t *flash, size_t flash_len, uint8_t *memory, size_t memory_len)
 {
+    uint8_t *const registers = (uint8_t *)&node->registers;
     uint8_t *const places = (uint8_t *)&node->reception;
     size_t i;
 
@@ -650,8 +666,8 @@ static inline void bujorelm_node_start(struct bujorelm_node *node, const struct 
     node->flash_len = flash_len;
     node->memory = memory;
     node->memory_len = memory_len;
-    for (i = 0; i < sizeof node->lock.bytes; i++) {
-        node->lock.bytes[i] = 0;
+    for (i = 0; i < sizeof node->registers; i++) {
+        registers[i] = 0;
     }
     for (i = 0; i < sizeof node->reception; i++) {
         places[i] = 0;
@@ -665,25 +681,34 @@ static inline void bujorelm_node_start(struct bujorelm_node *node, const struct 
 static inline struct bujorelm_result bujorelm_node_handle_frame(struct bujorelm_node *node, uint16_t tick, uint32_t header,
                                                                 const uint8_t *payload, size_t payload_len)
 {
-    return bujorelm_handle_frame(node->description.alias, node->description.write_lengths, node->description.spaces,
-                                 bujorelm_spaces_size(node->description.count), node->flash, node->flash_len, node->memory,
-                                 node->memory_len, &node->lock, node->pool, &node->reception, tick, header, payload, payload_len,
-                                 node->reply, sizeof node->reply, node->frames);
+    struct bujorelm_result result;
+
+    bujorelm_handle_frame(node->description.alias, node->description.write_lengths, node->description.spaces,
+                          bujorelm_spaces_size(node->description.count), node->flash, node->flash_len, node->memory, node->memory_len,
+                          &node->registers, node->pool, &node->reception, tick, header, payload, payload_len, node->reply,
+                          sizeof node->reply, node->frames, &result);
+    return result;
 }
 
 /* bujorelm_handle_tick for a node. */
 static inline struct bujorelm_result bujorelm_node_tick(struct bujorelm_node *node, uint16_t tick)
 {
-    return bujorelm_handle_tick(&node->reception, tick);
+    struct bujorelm_result result;
+
+    bujorelm_handle_tick(&node->reception, tick, &result);
+    return result;
 }
 
 /* bujorelm_handle_datagram for a node. The reply is the first `reply_len` bytes of node->reply. */
 static inline struct bujorelm_result bujorelm_node_handle_datagram(struct bujorelm_node *node, const uint8_t *datagram,
                                                                    size_t datagram_len)
 {
-    return bujorelm_handle_datagram(node->description.alias, node->description.write_lengths, node->description.spaces,
-                                    bujorelm_spaces_size(node->description.count), node->flash, node->flash_len, node->memory,
-                                    node->memory_len, &node->lock, datagram, datagram_len, node->reply, sizeof node->reply);
+    struct bujorelm_result result;
+
+    bujorelm_handle_datagram(node->description.alias, node->description.write_lengths, node->description.spaces,
+                             bujorelm_spaces_size(node->description.count), node->flash, node->flash_len, node->memory,
+                             node->memory_len, &node->registers, datagram, datagram_len, node->reply, sizeof node->reply, &result);
+    return result;
 }
 
 /* What comes of a frame that no board is interested in, for the node as it stands: BUJORELM_REFUSED with the first
@@ -695,11 +720,12 @@ static inline struct bujorelm_result bujorelm_node_check(const struct bujorelm_n
        that are too old by some tick are freed in a copy of the reception state. */
     struct bujorelm_node *const same = (struct bujorelm_node *)(uintptr_t)node;
     struct bujorelm_reception copy = node->reception;
+    struct bujorelm_result result;
 
-    return bujorelm_handle_frame(node->description.alias, node->description.write_lengths, node->description.spaces,
-                                 bujorelm_spaces_size(node->description.count), node->flash, node->flash_len, same->memory,
-                                 node->memory_len, &same->lock, same->pool, &copy, 0, 0, NULL, 0, same->reply, sizeof node->reply,
-                                 same->frames);
+    bujorelm_handle_frame(node->description.alias, node->description.write_lengths, node->description.spaces,
+                          bujorelm_spaces_size(node->description.count), node->flash, node->flash_len, same->memory, node->memory_len,
+                          &same->registers, same->pool, &copy, 0, 0, NULL, 0, same->reply, sizeof node->reply, same->frames, &result);
+    return result;
 }
 
 /* Puts a text, or a number in decimal digits, at a place, and returns the place behind it. */
@@ -789,9 +815,9 @@ static inline char *bujorelm_sentence_of(struct bujorelm_result result, char *te
 }
 
 /* Hands frames to `send`, one after the other. Returns false where `send` did. */
-static inline bool bujorelm_send_frames(const struct bujorelm_frame *frames, size_t count, bujorelm_send_function send, void *context)
+static inline bool bujorelm_send_frames(const struct bujorelm_frame *frames, uint64_t count, bujorelm_send_function send, void *context)
 {
-    size_t i;
+    uint64_t i;
 
     for (i = 0; i < count; i++) {
         if (!send(context, &frames[i])) {

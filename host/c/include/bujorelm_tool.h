@@ -5,6 +5,8 @@
  * every function are those of bujorelm.h. A tool also links libbujorelm.a, for GridConnect lines and for cutting a
  * command into frames. docs/TOOL.md shows how a tool uses both.
  *
+ * Every function that gives more than a number fills in a struct that is lent as its last parameter, all of its bytes and in every call.
+ *
  * - The functions bujorelm_compose_* write the command for a request into a lent buffer, in one form only: spaces 0xFD to 0xFF by the control
  *   bits, all others by byte 6, and reserved bits zero. The board reads each command as the request that it was written for.
  * - The functions bujorelm_read_* read what a board answers, and give every field or W3. What may be missing says whether it is there: no text
@@ -112,33 +114,34 @@ enum bujorelm_joined_kind {
     BUJORELM_JOINED_IN_POOL = 5
 };
 
-/* ---- Structs. A number that a kind does not name is 0, and a field that says yes or no is then false. ---- */
+/* ---- Structs. A number that a kind does not name is 0, and a field that says yes or no is then false. Padding comes back as zero. ---- */
 
-/* What came of writing a command: W1, W2, or none and the command's length, 2 to 71. */
+/* What came of writing a command: an enum bujorelm_refusal, which is W1, W2, or none and the command's length, 2 to 71. */
 struct bujorelm_composed {
-    enum bujorelm_refusal refusal;
-    size_t len;
+    uint32_t refusal;
+    uint64_t len;
 };
 
 /* Bytes in the content or the datagram that was read: whether they are there, the index of the first, and how many they are. A text is given
    without the zero byte that ends it, so an empty text is `given` with a `len` of 0. */
 struct bujorelm_bytes {
     bool given;
-    size_t start;
-    size_t len;
+    uint64_t start;
+    uint64_t len;
 };
 
-/* A Received OK: W3, or none, whether a reply is to follow, and the timeout value. That is 0 where there is none, and else N from 1 to 15, for
-   two to the power of N seconds. */
+/* A Received OK: W3, or none (an enum bujorelm_refusal), whether a reply is to follow, and the timeout value. That is 0 where there is none, and
+   else N from 1 to 15, for two to the power of N seconds. */
 struct bujorelm_acknowledged {
-    enum bujorelm_refusal refusal;
+    uint32_t refusal;
     bool pending;
     uint8_t timeout;
 };
 
-/* A Rejected: W3, or none, the code, and the bytes behind the code, which are always given and may be none: then they start at the end. */
+/* A Rejected: W3, or none (an enum bujorelm_refusal), the code, and the bytes behind the code, which are always given and may be none: then they
+   start at the end. */
 struct bujorelm_rejection {
-    enum bujorelm_refusal refusal;
+    uint32_t refusal;
     uint16_t code;
     struct bujorelm_bytes further;
 };
@@ -161,9 +164,10 @@ struct bujorelm_information {
     bool has_lowest_address;
 };
 
-/* A reply. `address`, `space` and `form` are those of kinds 1 to 4, and `space` also that of BUJORELM_REPLY_INFORMATION. */
+/* A reply: an enum bujorelm_reply_kind, and what belongs to it. `address`, `space` and `form`, an enum bujorelm_form, are those of kinds 1 to 4, and
+   `space` also that of BUJORELM_REPLY_INFORMATION. */
 struct bujorelm_reply {
-    enum bujorelm_reply_kind kind;
+    uint32_t kind;
     uint32_t address;
     uint16_t code;
     uint8_t space;
@@ -173,12 +177,12 @@ struct bujorelm_reply {
     struct bujorelm_bytes bytes;
 };
 
-/* What came of joining a frame. */
+/* What came of joining a frame: an enum bujorelm_joined_kind, and what belongs to it. */
 struct bujorelm_joined {
-    enum bujorelm_joined_kind kind;
+    uint32_t kind;
     uint16_t code;
-    size_t start;
-    size_t end;
+    uint64_t start;
+    uint64_t end;
 };
 
 /* A mask and a data byte: bits whose mask bit is 1 are taken from the data, and the others stay as they are. Data outside the mask play no part. */
@@ -187,13 +191,13 @@ struct bujorelm_pair {
     uint8_t data;
 };
 
-/* The next masked write: whether it is refused; whether there is one; and if so, the index of its first byte in the images and the number of its
-   pairs, 1 to 32. */
+/* The next masked write: whether it is refused, an enum bujorelm_change_refusal; whether there is one; and if so, the index of its first byte in the
+   images and the number of its pairs, 1 to 32. */
 struct bujorelm_change {
-    enum bujorelm_change_refusal refusal;
+    uint32_t refusal;
     bool given;
-    size_t start;
-    size_t count;
+    uint64_t start;
+    uint64_t count;
 };
 
 /* ---- The layout, held to the library's ---- */
@@ -277,50 +281,52 @@ BUJORELM_AT(change, count, 16);
 uint32_t bujorelm_tool_version(void);
 
 /*
- * Writing a command. The buffer is lent, with at least 72 bytes, and need not be cleared. Comes back: the refusal, W1 before W2, or none and the
- * length of the command, which is in front of the buffer.
+ * Writing a command. The buffer is lent, with at least 72 bytes, and need not be cleared. Comes back in `composed`, which is lent: the refusal, W1
+ * before W2, or none and the length of the command, which is in front of the buffer.
  *
  * What never happens: a byte of the buffer is written where the command is refused, or behind the command where it is not; two different requests
  * make the same bytes; the board reads a command as anything but the request that it was written for.
  */
 
 /* A read of `count` bytes, 1 to 64, from an address of a space on. A count over 255 is W1 too: it is not cut down to a byte. */
-struct bujorelm_composed bujorelm_compose_read(uint8_t space, uint32_t address, size_t count, uint8_t *buffer, size_t buffer_len);
+void bujorelm_compose_read(uint8_t space, uint32_t address, uint64_t count, uint8_t *buffer, uint64_t buffer_len,
+                           struct bujorelm_composed *composed);
 
 /* A write of 1 to 64 bytes, which are lent. */
-struct bujorelm_composed bujorelm_compose_write(uint8_t space, uint32_t address, const uint8_t *bytes, size_t bytes_len, uint8_t *buffer,
-                                                size_t buffer_len);
+void bujorelm_compose_write(uint8_t space, uint32_t address, const uint8_t *bytes, uint64_t bytes_len, uint8_t *buffer, uint64_t buffer_len,
+                            struct bujorelm_composed *composed);
 
 /* A masked write of 1 to 32 pairs, which are lent as 2 to 64 bytes: a mask, its data, the next mask, and so on. Bits of memory whose mask bit is
    1 are taken from the data, and the others stay as they are. */
-struct bujorelm_composed bujorelm_compose_masked_write(uint8_t space, uint32_t address, const uint8_t *pairs, size_t pairs_len,
-                                                       uint8_t *buffer, size_t buffer_len);
+void bujorelm_compose_masked_write(uint8_t space, uint32_t address, const uint8_t *pairs, uint64_t pairs_len, uint8_t *buffer,
+                                   uint64_t buffer_len, struct bujorelm_composed *composed);
 
 /* The options of the board. */
-struct bujorelm_composed bujorelm_compose_options(uint8_t *buffer, size_t buffer_len);
+void bujorelm_compose_options(uint8_t *buffer, uint64_t buffer_len, struct bujorelm_composed *composed);
 
 /* The information on a space. */
-struct bujorelm_composed bujorelm_compose_information(uint8_t space, uint8_t *buffer, size_t buffer_len);
+void bujorelm_compose_information(uint8_t space, uint8_t *buffer, uint64_t buffer_len, struct bujorelm_composed *composed);
 
 /* The lock, with an ID of six bytes, which are lent. An ID that is all zero releases it. */
-struct bujorelm_composed bujorelm_compose_lock(const uint8_t *id, size_t id_len, uint8_t *buffer, size_t buffer_len);
+void bujorelm_compose_lock(const uint8_t *id, uint64_t id_len, uint8_t *buffer, uint64_t buffer_len, struct bujorelm_composed *composed);
 
 /* Update Complete. */
-struct bujorelm_composed bujorelm_compose_update_complete(uint8_t *buffer, size_t buffer_len);
+void bujorelm_compose_update_complete(uint8_t *buffer, uint64_t buffer_len, struct bujorelm_composed *composed);
 
 /*
  * Reading what a board answers. What is read is lent and not written to. The content of Received OK and of Rejected is what stands in the message
- * behind the aliases: in a frame of one part, its data without the first two bytes. Any length may be handed in.
+ * behind the aliases: in a frame of one part, its data without the first two bytes. Any length may be handed in. What was read comes back in the
+ * last parameter, which is lent.
  */
 
 /* Received OK. Without its byte it is read as if that were zero, and reserved bits are ignored. */
-struct bujorelm_acknowledged bujorelm_read_received_ok(const uint8_t *content, size_t content_len);
+void bujorelm_read_received_ok(const uint8_t *content, uint64_t content_len, struct bujorelm_acknowledged *acknowledged);
 
 /* Rejected. A byte of the code that is missing counts as zero: a single byte is the high one. */
-struct bujorelm_rejection bujorelm_read_rejected(const uint8_t *content, size_t content_len);
+void bujorelm_read_rejected(const uint8_t *content, uint64_t content_len, struct bujorelm_rejection *rejection);
 
 /* A reply datagram. Whatever the library's own board answers is read with the fields that the board put in. */
-struct bujorelm_reply bujorelm_read_reply(const uint8_t *datagram, size_t datagram_len);
+void bujorelm_read_reply(const uint8_t *datagram, uint64_t datagram_len, struct bujorelm_reply *reply);
 
 /*
  * Joins a frame of a datagram that a board sends to the tool. Hand in every received data frame with an extended header. Eight boards may send a
@@ -331,6 +337,7 @@ struct bujorelm_reply bujorelm_read_reply(const uint8_t *datagram, size_t datagr
  * reception  lent; all zero at the start, and kept as it is between calls
  * header     the 29-bit CAN header
  * payload    lent; the frame's data
+ * joined     lent; what came of the frame comes back in it
  *
  * A finished datagram is read before the next call: its bytes are the frame's data, or in the pool.
  *
@@ -342,8 +349,8 @@ struct bujorelm_reply bujorelm_read_reply(const uint8_t *datagram, size_t datagr
  * starts all zero and is changed by these calls alone, no place has another tick. In any other state a place whose tick is more than 3,000 back from
  * 0 is freed before the frame is looked at, even one that is ignored.
  */
-struct bujorelm_joined bujorelm_join(uint16_t alias, uint8_t *pool, struct bujorelm_reception *reception, uint32_t header,
-                                     const uint8_t *payload, size_t payload_len);
+void bujorelm_join(uint16_t alias, uint8_t *pool, struct bujorelm_reception *reception, uint32_t header, const uint8_t *payload,
+                   uint64_t payload_len, struct bujorelm_joined *joined);
 
 /*
  * Changing bits and leaving all others alone (C-16).
@@ -354,8 +361,8 @@ struct bujorelm_joined bujorelm_join(uint16_t alias, uint8_t *pool, struct bujor
  */
 
 /* One mask and data byte that do to every byte what `earlier` and then `later` do: what either touches is touched, and of a bit that both touch
-   the later is seen. The data of the result are zero outside its mask. Nothing is lent. */
-struct bujorelm_pair bujorelm_put_together(struct bujorelm_pair earlier, struct bujorelm_pair later);
+   the later is seen. It comes back in `together`; its data are zero outside its mask. All three are lent; `together` is neither of the others. */
+void bujorelm_put_together(const struct bujorelm_pair *earlier, const struct bujorelm_pair *later, struct bujorelm_pair *together);
 
 /*
  * The next masked write out of those that take an old image of memory to a new one, at or after an index.
@@ -363,8 +370,9 @@ struct bujorelm_pair bujorelm_put_together(struct bujorelm_pair earlier, struct 
  * before, after  lent, of the same length, and not written to: what the board's bytes are, and what they are to be
  * from           the index at which to look on: 0 for the first, and then `start` + `count` of the change before
  * pairs          lent, at least 64 bytes, and need not be cleared
+ * change         lent; it is filled in whether or not there is a change
  *
- * Comes back: a refusal, or whether there is a change. It starts at the first byte at or after `from` that differs and ends with the last that
+ * Comes back in `change`: a refusal, or whether there is a change. It starts at the first byte at or after `from` that differs and ends with the last that
  * differs among the 32 bytes from there; its pairs are in front of `pairs`, 2 * `count` bytes, as bujorelm_compose_masked_write takes them. Each mask
  * has just the bits that differ. Where no byte differs at or after `from`, also where that is behind the images, none is `given`.
  *
@@ -374,8 +382,8 @@ struct bujorelm_pair bujorelm_put_together(struct bujorelm_pair earlier, struct 
  * All of them one after the other make the old image the new one, and fewer masked writes do not. What never happens: a bit is touched that is the
  * same in both images; a byte of `pairs` is written behind the pairs, or where there is no change.
  */
-struct bujorelm_change bujorelm_next_change(const uint8_t *before, size_t before_len, const uint8_t *after, size_t after_len, size_t from,
-                                            uint8_t *pairs, size_t pairs_len);
+void bujorelm_next_change(const uint8_t *before, uint64_t before_len, const uint8_t *after, uint64_t after_len, uint64_t from,
+                          uint8_t *pairs, uint64_t pairs_len, struct bujorelm_change *change);
 
 /* ---- Functions of this header ---- */
 

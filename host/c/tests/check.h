@@ -1,5 +1,5 @@
-/* What the test programs share: checks that say where they failed, bytes from hex digits, pseudo-random numbers, and buffers between pages
-   that cannot be touched. */
+/* What the test programs share: checks that say where they failed, bytes from hex digits, pseudo-random numbers, buffers between pages that
+   cannot be touched, and room for what comes of a call. */
 #ifndef BUJORELM_CHECK_H
 #define BUJORELM_CHECK_H
 
@@ -153,6 +153,46 @@ static inline void guarded_free(struct guarded *g)
         give_up("munmap");
     }
     g->bytes = NULL;
+}
+
+/* The most bytes of a struct that comes of a call. */
+#define ROOM_MAX 64u
+
+/*
+ * Room for a struct that a call is lent for what comes of it, or changes: between pages that cannot be touched, now at the one and now at the
+ * other, and full of bytes that differ from call to call, since what it holds plays no part. The fourth room from here on is the same again.
+ */
+static inline void *room_for(size_t len)
+{
+    static struct guarded rooms[4];
+    static unsigned turn;
+    const bool at_start = turn % 2 == 0;
+    struct guarded *const room = &rooms[turn++ % 4];
+    uint8_t *at;
+
+    if (len > ROOM_MAX) {
+        fputs("no room of that size\n", stderr);
+        exit(EXIT_FAILURE);
+    }
+    if (room->pages == NULL) {
+        *room = guarded_new(ROOM_MAX, at_start);
+    }
+    at = room->bytes + (at_start ? 0 : ROOM_MAX - len);
+    for (size_t i = 0; i < len; i++) {
+        at[i] = (uint8_t)(167 * turn + 29 * i);
+    }
+    return at;
+}
+
+/* Whether the bytes of a struct from one index up to another are zero, as padding is. */
+static inline bool is_zero_from(const void *bytes, size_t from, size_t end)
+{
+    for (size_t i = from; i < end; i++) {
+        if (((const uint8_t *)bytes)[i] != 0) {
+            return false;
+        }
+    }
+    return true;
 }
 
 #endif

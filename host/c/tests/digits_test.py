@@ -24,7 +24,7 @@ ENTRIES = {
     "bujorelm_last_line": {"memcpy", "memset"},
 }
 # Crates that reach every function on the way of a digit, and some that have to be among these.
-CRATES = ("gridconnect_lines", "gridconnect_frames")
+CRATES = ("gridconnect_lines", "gridconnect_frames", "capi_lines")
 REACHED = {
     *("hex_digit::value_of", "hex_digit::digits_of", "hex_read::read_number", "hex_read::read_bytes"),
     *("hex_print::put_number", "hex_print::put_digits", "buffer::bytes", "buffer::number"),

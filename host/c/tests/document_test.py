@@ -52,6 +52,13 @@ def check_errors(text):
     expect([(name, number) for number, name in rows], header, "the caller's errors in the document")
 
 
+def check_structs(text):
+    """The structs that the library sees, and their sizes: those of the header, in its order."""
+    header = re.findall(r"^BUJORELM_SIZE\((\w+), (\d+)\);$", source("host/c/include/bujorelm.h"), re.M)
+    rows = re.findall(r"^\| `struct bujorelm_(\w+)`, (\d+) \|", text, re.M)
+    expect(rows, header, "the structs and their sizes in the document")
+
+
 def check_refusals(text, program, build, folder):
     """What the program prints for each error that the document plants in it."""
     rows = re.findall(r"^\| `\.(\w+) = (\w+)`(?: in the (first|second).*?)? \| (B\d+: .*) \|$", text, re.M)
@@ -100,6 +107,7 @@ def main():
     expect(program[2] in source("host/c/host.c"), True, "the use of the line splitter, as in the host")
     check_archive(text)
     check_errors(text)
+    check_structs(text)
     check_host(text)
     for name in ("example", "example-sanitized"):
         expect(output([os.path.join(OUT, name)]), outputs[0], f"what {name} prints")

@@ -18,6 +18,7 @@ int main()
     const uint8_t options[] = {0x20, 0x80};
     bujorelm_result answer;
     bujorelm_carry carry = bujorelm_carry();
+    bujorelm_line line;
     char sentence[BUJORELM_SENTENCE_SIZE];
     size_t position = 7;
     int frames = 0;
@@ -31,7 +32,8 @@ int main()
         bujorelm_node_tick(&node, 0).kind != BUJORELM_JOINED || answer.kind != BUJORELM_REPLIED || answer.reply_len != 7 || answer.frame_count != 2 || frames != 2 ||
         bujorelm_error_of(answer) != BUJORELM_ERROR_NONE || bujorelm_code_of(answer) != BUJORELM_CODE_NONE ||
         bujorelm_position_of(answer, &position) || position != 7 || bujorelm_sentence_of(answer, sentence)[0] != 't' ||
-        !bujorelm_next_line(reinterpret_cast<const uint8_t *>("\n"), 1, 0, carry).complete) {
+        bujorelm_kind_of(answer) != BUJORELM_REPLIED ||
+        bujorelm_next_line(reinterpret_cast<const uint8_t *>("\n"), 1, 0, &carry, &line) != 1 || !line.complete) {
         std::puts("header: the library does not answer in C++");
         return 1;
     }

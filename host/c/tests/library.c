@@ -9,8 +9,8 @@
  */
 #define _DEFAULT_SOURCE
 
-#include "check.h"
 #include "demonstration.h"
+#include "lent.h"
 
 #define UNTOUCHED 0xC7
 
@@ -174,7 +174,7 @@ static bool same_places(const struct bujorelm_reception *a, const struct bujorel
 /* The same of all that a node keeps between calls. */
 static bool same_node(const struct bujorelm_node *a, const struct bujorelm_node *b)
 {
-    return same_places(&a->reception, &b->reception) && memcmp(&a->lock, &b->lock, sizeof a->lock) == 0 &&
+    return same_places(&a->reception, &b->reception) && memcmp(&a->registers, &b->registers, sizeof a->registers) == 0 &&
            memcmp(a->pool, b->pool, sizeof a->pool) == 0;
 }
 
@@ -354,10 +354,11 @@ static struct bujorelm_result call_frame(struct board *b, uint32_t header, const
     struct bujorelm_result answer;
 
     memset(b->frames.bytes, UNTOUCHED, b->frames.len);
-    answer = bujorelm_handle_frame(n->description.alias, n->description.write_lengths, n->description.spaces,
-                                   bujorelm_spaces_size(n->description.count), n->flash, n->flash_len, n->memory, n->memory_len, &n->lock,
-                                   n->pool, &n->reception, b->tick, header, data, len, b->reply.bytes, b->reply.len,
-                                   frames_in(&b->frames));
+    bujorelm_handle_frame(n->description.alias, n->description.write_lengths, n->description.spaces,
+                          bujorelm_spaces_size(n->description.count), n->flash, n->flash_len, n->memory, n->memory_len, &n->registers,
+                          n->pool, &n->reception, b->tick, header, data, len, b->reply.bytes, b->reply.len, frames_in(&b->frames),
+                          lent_result());
+    answer = given_result();
     CHECK(gives_frames(&b->frames, answer, n->description.alias, header, b->reply.bytes));
     return answer;
 }
@@ -365,7 +366,7 @@ static struct bujorelm_result call_frame(struct board *b, uint32_t header, const
 /* A lone tick to a board. */
 static struct bujorelm_result call_tick(struct board *b)
 {
-    const struct bujorelm_result answer = bujorelm_handle_tick(&b->node.reception, b->tick);
+    const struct bujorelm_result answer = handle_tick(&b->node.reception, b->tick);
 
     CHECK(answer.frame_count == 0);
     return answer;
@@ -389,11 +390,12 @@ static struct bujorelm_result feed(struct board *b, uint32_t header, const uint8
 static struct bujorelm_result hand_over(struct board *b, const uint8_t *datagram, size_t len)
 {
     struct bujorelm_node *const n = &b->node;
-    const struct bujorelm_result answer =
-        bujorelm_handle_datagram(n->description.alias, n->description.write_lengths, n->description.spaces,
-                                 bujorelm_spaces_size(n->description.count), n->flash, n->flash_len, n->memory, n->memory_len, &n->lock,
-                                 datagram, len, b->reply.bytes, b->reply.len);
+    struct bujorelm_result answer;
 
+    bujorelm_handle_datagram(n->description.alias, n->description.write_lengths, n->description.spaces,
+                             bujorelm_spaces_size(n->description.count), n->flash, n->flash_len, n->memory, n->memory_len, &n->registers,
+                             datagram, len, b->reply.bytes, b->reply.len, lent_result());
+    answer = given_result();
     CHECK(answer.frame_count == 0);
     return answer;
 }
@@ -410,7 +412,7 @@ static struct bujorelm_result feed_hex(struct board *b, uint32_t top, uint32_t s
 
 /* What is lent and has one size, each between pages that cannot be touched: at the one end of its page or at the other. */
 struct lent {
-    struct guarded lock;
+    struct guarded registers;
     struct guarded pool;
     struct guarded places;
     struct guarded frames;
@@ -418,11 +420,11 @@ struct lent {
 
 static void lent_new(struct lent *l, bool at_start)
 {
-    l->lock = guarded_new(sizeof(struct bujorelm_lock), at_start);
+    l->registers = guarded_new(sizeof(struct bujorelm_registers), at_start);
     l->pool = guarded_new(BUJORELM_POOL_SIZE, at_start);
     l->places = guarded_new(sizeof(struct bujorelm_reception), at_start);
     l->frames = guarded_new(BUJORELM_SENT_MAX * sizeof(struct bujorelm_frame), at_start);
-    memset(l->lock.bytes, 0, l->lock.len);
+    memset(l->registers.bytes, 0, l->registers.len);
     memset(l->pool.bytes, UNTOUCHED, l->pool.len);
     memset(l->places.bytes, 0, l->places.len);
     memset(l->frames.bytes, UNTOUCHED, l->frames.len);
@@ -430,7 +432,7 @@ static void lent_new(struct lent *l, bool at_start)
 
 static void lent_free(struct lent *l)
 {
-    guarded_free(&l->lock);
+    guarded_free(&l->registers);
     guarded_free(&l->pool);
     guarded_free(&l->places);
     guarded_free(&l->frames);
@@ -449,9 +451,10 @@ static struct bujorelm_frame *frames_of(const struct lent *l)
 /* A frame to the demonstration board, by the function of the library itself. */
 static struct bujorelm_result feed_lent(const struct board *b, const struct lent *l, uint32_t header, const uint8_t *data, size_t len)
 {
-    return bujorelm_handle_frame(0x22B, 0xF2, b->node.description.spaces, b->table.len, b->flash.bytes, b->flash.len, b->memory.bytes,
-                                 b->memory.len, (struct bujorelm_lock *)(void *)l->lock.bytes, l->pool.bytes, places_of(l), b->tick, header,
-                                 data, len, b->reply.bytes, b->reply.len, frames_of(l));
+    bujorelm_handle_frame(0x22B, 0xF2, b->node.description.spaces, b->table.len, b->flash.bytes, b->flash.len, b->memory.bytes,
+                          b->memory.len, (struct bujorelm_registers *)(void *)l->registers.bytes, l->pool.bytes, places_of(l), b->tick,
+                          header, data, len, b->reply.bytes, b->reply.len, frames_of(l), lent_result());
+    return given_result();
 }
 
 /* What the header asserts of sizes is true of the library too: a field of every struct goes over and comes back in its place, and nothing
@@ -498,16 +501,16 @@ static void test_layout(void)
         /* The lock is changed where it lies. */
         answer = feed_lent(&b, &l, header_of(SINGLE, 0x22B, 0x124), locked, 8);
         CHECK(is_answer(answer, BUJORELM_REPLIED, 0, 0x80, 0, 8));
-        CHECK(memcmp(l.lock.bytes, locked + 2, 6) == 0);
+        CHECK(memcmp(l.registers.bytes, locked + 2, 6) == 0);
         CHECK(memcmp(l.places.bytes, places, 64) == 0);
 
         /* A lone tick is lent the places and nothing else. A tick later the one is too old, and in the end the other is. */
-        CHECK(is_joined(bujorelm_handle_tick(places_of(&l), 0xABCD)) && memcmp(l.places.bytes, places, 64) == 0);
+        CHECK(is_joined(handle_tick(places_of(&l), 0xABCD)) && memcmp(l.places.bytes, places, 64) == 0);
         memset(places, 0, 8);
-        CHECK(is_joined(bujorelm_handle_tick(places_of(&l), 0xABCE)) && memcmp(l.places.bytes, places, 64) == 0);
-        CHECK(is_joined(bujorelm_handle_tick(places_of(&l), 0xB785)) && memcmp(l.places.bytes, places, 64) == 0);
+        CHECK(is_joined(handle_tick(places_of(&l), 0xABCE)) && memcmp(l.places.bytes, places, 64) == 0);
+        CHECK(is_joined(handle_tick(places_of(&l), 0xB785)) && memcmp(l.places.bytes, places, 64) == 0);
         memset(places + 56, 0, 8);
-        CHECK(is_joined(bujorelm_handle_tick(places_of(&l), 0xB786)) && memcmp(l.places.bytes, places, 64) == 0);
+        CHECK(is_joined(handle_tick(places_of(&l), 0xB786)) && memcmp(l.places.bytes, places, 64) == 0);
 
         memset(l.frames.bytes, UNTOUCHED, l.frames.len);
         CHECK(bujorelm_cut(eight, 8, 0xDEF, 0xABC, frames_of(&l)) == 1);
@@ -526,30 +529,29 @@ static void test_layout(void)
 /* An empty buffer may have no address. */
 static void test_empty_buffers(void)
 {
-    struct bujorelm_lock lock = {{0}};
+    struct bujorelm_registers registers = {{0}};
     struct bujorelm_reception reception;
     struct bujorelm_frame frames[BUJORELM_SENT_MAX];
     uint8_t pool[BUJORELM_POOL_SIZE];
     uint8_t reply[BUJORELM_REPLY_MIN];
-    struct bujorelm_result answer;
 
     memset(&reception, 0, sizeof reception);
     memset(frames, 0, sizeof frames);
     memset(pool, 0, sizeof pool);
-    answer = bujorelm_handle_frame(0x22B, 0, NULL, 0, NULL, 0, NULL, 0, &lock, pool, &reception, 0, header_of(SINGLE, 0x22B, 0x123), NULL,
-                                   0, reply, sizeof reply, frames);
-    CHECK(is_answer(answer, BUJORELM_REJECTED, 0, 0, 0x1080, 0));
-    answer = bujorelm_handle_frame(0x22B, 0, NULL, 0, NULL, 0, NULL, 0, &lock, pool, &reception, 65535, header_of(SINGLE, 0x22B, 0x123),
-                                   (const uint8_t *)"\x20\x80", 2, reply, sizeof reply, frames);
-    CHECK(is_answer(answer, BUJORELM_REPLIED, 0, 0x80, 0, 7));
-    answer = bujorelm_handle_frame(0x22B, 0, NULL, 0, NULL, 0, NULL, 0, &lock, pool, &reception, 0, 0, NULL, 0, NULL, 0, frames);
-    CHECK(is_error(answer, BUJORELM_ERROR_B6_REPLY_BUFFER_TOO_SHORT));
-    answer = bujorelm_handle_datagram(0x22B, 0, NULL, 0, NULL, 0, NULL, 0, &lock, NULL, 0, reply, sizeof reply);
-    CHECK(is_answer(answer, BUJORELM_REJECTED, 0, 0, 0x1080, 0));
+    bujorelm_handle_frame(0x22B, 0, NULL, 0, NULL, 0, NULL, 0, &registers, pool, &reception, 0, header_of(SINGLE, 0x22B, 0x123), NULL, 0,
+                          reply, sizeof reply, frames, lent_result());
+    CHECK(is_answer(given_result(), BUJORELM_REJECTED, 0, 0, 0x1080, 0));
+    bujorelm_handle_frame(0x22B, 0, NULL, 0, NULL, 0, NULL, 0, &registers, pool, &reception, 65535, header_of(SINGLE, 0x22B, 0x123),
+                          (const uint8_t *)"\x20\x80", 2, reply, sizeof reply, frames, lent_result());
+    CHECK(is_answer(given_result(), BUJORELM_REPLIED, 0, 0x80, 0, 7));
+    bujorelm_handle_frame(0x22B, 0, NULL, 0, NULL, 0, NULL, 0, &registers, pool, &reception, 0, 0, NULL, 0, NULL, 0, frames, lent_result());
+    CHECK(is_error(given_result(), BUJORELM_ERROR_B6_REPLY_BUFFER_TOO_SHORT));
+    bujorelm_handle_datagram(0x22B, 0, NULL, 0, NULL, 0, NULL, 0, &registers, NULL, 0, reply, sizeof reply, lent_result());
+    CHECK(is_answer(given_result(), BUJORELM_REJECTED, 0, 0, 0x1080, 0));
     CHECK(bujorelm_cut(NULL, 0, 2, 1, frames) == 1 && frames[0].header == 0x1A001002u && frames[0].len == 0);
-    CHECK(!bujorelm_parse_line(NULL, 0).good);
-    CHECK(!bujorelm_next_line(NULL, 0, 0, (struct bujorelm_carry){.len = 0}).complete);
-    CHECK(bujorelm_print_frame(frames[0], NULL, 0, 0) == 0);
+    CHECK(!parse_line(NULL, 0).good);
+    CHECK(!next_line(NULL, 0, 0, (struct bujorelm_carry){.len = 0}).line.complete);
+    CHECK(print_frame(frames[0], NULL, 0, 0) == 0);
 }
 
 /* What is only read may be the same bytes: a frame's data that lie in flash, and a table of spaces that is the flash. */
@@ -558,20 +560,20 @@ static void test_const_overlap(void)
     static const struct bujorelm_space table[] = {{.number = 0xFF, .read_only = true, .in_flash = true, .lowest = 0, .highest = 15}};
     static const uint8_t flash[] = {0x20, 0x43, 0, 0, 0, 0, 7};
     const uint8_t *const bytes = (const uint8_t *)table;
-    struct bujorelm_lock lock = {{0}};
+    struct bujorelm_registers registers = {{0}};
     struct bujorelm_reception reception;
     struct bujorelm_frame frames[BUJORELM_SENT_MAX];
     uint8_t pool[BUJORELM_POOL_SIZE];
     uint8_t reply[BUJORELM_REPLY_MIN];
-    struct bujorelm_result answer;
 
     memset(&reception, 0, sizeof reception);
     memset(pool, 0, sizeof pool);
-    answer = bujorelm_handle_frame(0x22B, 0, table, sizeof table, bytes, sizeof table, NULL, 0, &lock, pool, &reception, 0,
-                                   header_of(SINGLE, 0x22B, 0x123), flash, sizeof flash, reply, sizeof reply, frames);
-    CHECK(is_answer(answer, BUJORELM_REPLIED, 0, 0x80, 0, 13) && memcmp(reply + 6, bytes, 7) == 0);
-    answer = bujorelm_handle_datagram(0x22B, 0, NULL, 0, flash, sizeof flash, NULL, 0, &lock, flash, sizeof flash, reply, sizeof reply);
-    CHECK(is_answer(answer, BUJORELM_REPLIED, 0, 0x80, 0, 8));
+    bujorelm_handle_frame(0x22B, 0, table, sizeof table, bytes, sizeof table, NULL, 0, &registers, pool, &reception, 0,
+                          header_of(SINGLE, 0x22B, 0x123), flash, sizeof flash, reply, sizeof reply, frames, lent_result());
+    CHECK(is_answer(given_result(), BUJORELM_REPLIED, 0, 0x80, 0, 13) && memcmp(reply + 6, bytes, 7) == 0);
+    bujorelm_handle_datagram(0x22B, 0, NULL, 0, flash, sizeof flash, NULL, 0, &registers, flash, sizeof flash, reply, sizeof reply,
+                             lent_result());
+    CHECK(is_answer(given_result(), BUJORELM_REPLIED, 0, 0x80, 0, 8));
 }
 
 /* ---- Document 01's session ---- */
@@ -584,7 +586,7 @@ struct line_sink {
 static bool print_to_sink(void *context, const struct bujorelm_frame *frame)
 {
     struct line_sink *const sink = context;
-    const size_t end = bujorelm_print_frame(*frame, sink->text, sizeof sink->text, sink->len);
+    const size_t end = print_frame(*frame, sink->text, sizeof sink->text, sink->len);
 
     if (end == sink->len) {
         return false;
@@ -618,7 +620,7 @@ static void play_session(uint16_t tick, uint16_t pace)
     board_demonstration(&b);
     CHECK(bujorelm_node_check(&b.node).kind == BUJORELM_IGNORED);
     for (size_t i = 0; i < sizeof input / sizeof input[0]; i++) {
-        const struct bujorelm_parsed line = bujorelm_parse_line((const uint8_t *)input[i], strlen(input[i]));
+        const struct bujorelm_parsed line = parse_line((const uint8_t *)input[i], strlen(input[i]));
         struct bujorelm_result answer;
 
         CHECK_CASE(line.good, input[i]);
@@ -971,20 +973,20 @@ static void test_changed(void)
 /* Whether a result has these bytes, which is how the library sees it. */
 static bool has_bytes(struct bujorelm_result result, const char *hex)
 {
-    uint8_t expected[16];
+    uint8_t expected[20];
 
-    return from_hex(hex, expected) == 16 && memcmp(&result, expected, 16) == 0;
+    return from_hex(hex, expected) == 20 && memcmp(&result, expected, 20) == 0;
 }
 
 static void test_result_bytes(void)
 {
     static const char *const cases[][2] = {
-        {"2000 00000CC1 20 0102030405", "05000000 0000 00 00 BE0C0000 05 00 01 FF"},
-        {"2000 00010002 20 01", "05000000 0000 00 00 FFFF0000 01 00 01 FF"},
-        {"20A8", "07000000 0000 00 00 00000000 00 00 01 FF"},
-        {"2080", "06000000 0000 00 80 00000000 00 07 02 FF"},
-        {"2040 00000003 20 40", "06000000 0000 00 80 00000000 00 47 0A FF"},
-        {"2044", "04000000 4110 00 00 00000000 00 00 01 FF"},
+        {"2000 00000CC1 20 0102030405", "05000000 0000 00 00 BE0C0000 05000000 00 01 FF 00"},
+        {"2000 00010002 20 01", "05000000 0000 00 00 FFFF0000 01000000 00 01 FF 00"},
+        {"20A8", "07000000 0000 00 00 00000000 00000000 00 01 FF 00"},
+        {"2080", "06000000 0000 00 80 00000000 00000000 07 02 FF 00"},
+        {"2040 00000003 20 40", "06000000 0000 00 80 00000000 00000000 47 0A FF 00"},
+        {"2044", "04000000 4110 00 00 00000000 00000000 00 01 FF 00"},
     };
     struct draft d = draft_demonstration();
     uint8_t datagram[BUJORELM_DATAGRAM_MAX];
@@ -1000,19 +1002,19 @@ static void test_result_bytes(void)
         board_free(&b);
     }
     board_new(&b, &d, 0, BUJORELM_STORE_MAX, BUJORELM_REPLY_MIN);
-    CHECK(has_bytes(feed_hex(&b, LAST, 0x123, ""), "03000000 4020 00 00 00000000 00 00 01 FF"));
-    CHECK(has_bytes(feed_hex(&b, FIRST, 0x123, ""), "02000000 0000 00 00 00000000 00 00 00 FF"));
-    CHECK(has_bytes(feed_hex(&b, FIRST, 0x123, ""), "03000000 4020 00 00 00000000 00 00 01 FF"));
-    CHECK(has_bytes(feed_hex(&b, MIDDLE, 0x123, "00"), "02000000 0000 00 00 00000000 00 00 00 FF"));
-    CHECK(has_bytes(feed_hex(&b, LAST, 0x123, ""), "02000000 0000 00 00 00000000 00 00 00 FF"));
-    CHECK(has_bytes(feed(&b, 0, NULL, 0), "01000000 0000 00 00 00000000 00 00 00 FF"));
-    CHECK(has_bytes(call_tick(&b), "02000000 0000 00 00 00000000 00 00 00 FF"));
+    CHECK(has_bytes(feed_hex(&b, LAST, 0x123, ""), "03000000 4020 00 00 00000000 00000000 00 01 FF 00"));
+    CHECK(has_bytes(feed_hex(&b, FIRST, 0x123, ""), "02000000 0000 00 00 00000000 00000000 00 00 FF 00"));
+    CHECK(has_bytes(feed_hex(&b, FIRST, 0x123, ""), "03000000 4020 00 00 00000000 00000000 00 01 FF 00"));
+    CHECK(has_bytes(feed_hex(&b, MIDDLE, 0x123, "00"), "02000000 0000 00 00 00000000 00000000 00 00 FF 00"));
+    CHECK(has_bytes(feed_hex(&b, LAST, 0x123, ""), "02000000 0000 00 00 00000000 00000000 00 00 FF 00"));
+    CHECK(has_bytes(feed(&b, 0, NULL, 0), "01000000 0000 00 00 00000000 00000000 00 00 FF 00"));
+    CHECK(has_bytes(call_tick(&b), "02000000 0000 00 00 00000000 00000000 00 00 FF 00"));
     b.node.reception.places[7].held = 1;
     b.node.reception.places[7].len = 73;
-    CHECK(has_bytes(feed(&b, 0, NULL, 0), "00000000 0000 07 00 00000000 00 00 00 FF"));
-    CHECK(has_bytes(call_tick(&b), "00000000 0000 07 00 00000000 00 00 00 FF"));
+    CHECK(has_bytes(feed(&b, 0, NULL, 0), "00000000 0000 07 00 00000000 00000000 00 00 FF 00"));
+    CHECK(has_bytes(call_tick(&b), "00000000 0000 07 00 00000000 00000000 00 00 FF 00"));
     b.node.memory_len = 0;
-    CHECK(has_bytes(feed(&b, 0, NULL, 0), "00000000 0000 03 00 00000000 00 00 00 00"));
+    CHECK(has_bytes(feed(&b, 0, NULL, 0), "00000000 0000 03 00 00000000 00000000 00 00 00 00"));
     b.node.memory_len = BUJORELM_STORE_MAX;
     board_free(&b);
 }
@@ -1034,11 +1036,11 @@ static void test_lock(void)
         from_hex(steps[i][1], expected);
         CHECK_CASE(is_answer(answer, BUJORELM_REPLIED, 0, 0x80, 0, 8), steps[i][0]);
         CHECK_CASE(memcmp(b.reply.bytes, expected, 8) == 0, steps[i][0]);
-        CHECK_CASE(memcmp(b.node.lock.bytes, expected + 2, 6) == 0, steps[i][0]);
+        CHECK_CASE(memcmp(b.node.registers.lock, expected + 2, 6) == 0, steps[i][0]);
     }
     CHECK(is_written(feed_hex(&b, SINGLE, 0x777, "20010000000042"), 0, 1));
     CHECK(b.memory.bytes[0] == 0x42);
-    CHECK(memcmp(b.node.lock.bytes, expected + 2, 6) == 0);
+    CHECK(memcmp(b.node.registers.lock, expected + 2, 6) == 0);
     board_free(&b);
 }
 
@@ -1092,7 +1094,7 @@ static void check_refused_at(struct board *b, uint8_t error, uint8_t position, b
         CHECK_CASE(is_error_at(hand_over(b, write, sizeof write), error, position), word);
     }
     CHECK_CASE(same_places(&b->node.reception, &before.reception), word);
-    CHECK_CASE(memcmp(b->node.lock.bytes, before.lock.bytes, 6) == 0, word);
+    CHECK_CASE(memcmp(b->node.registers.lock, before.registers.lock, 6) == 0, word);
     CHECK_CASE(memcmp(b->node.pool, before.pool, sizeof before.pool) == 0, word);
     CHECK_CASE(memcmp(b->memory.bytes, memory, b->memory.len) == 0, word);
     CHECK_CASE(is_untouched(b->reply.bytes, 0, b->reply.len), word);
@@ -1119,7 +1121,7 @@ static void check_draft_refused_at(const struct draft *d, size_t flash_len, size
                                                              .swallowing = (uint8_t)(i % 3),
                                                              .unused = 0xFF};
     }
-    b.node.lock.bytes[2] = 9;
+    b.node.registers.lock[2] = 9;
     check_refused_at(&b, error, position, true, word);
     board_free(&b);
 }
@@ -1504,7 +1506,7 @@ static void test_table_bytes(void)
 static void test_table_sizes(void)
 {
     struct bujorelm_space spaces[18];
-    struct bujorelm_lock lock = {{0}};
+    struct bujorelm_registers registers = {{0}};
     uint8_t memory[1] = {0x5E};
     uint8_t reply[BUJORELM_REPLY_MIN];
     struct bujorelm_result answer;
@@ -1526,7 +1528,8 @@ static void test_table_sizes(void)
         for (uint8_t number = 0x40; number < 0x52; number++) {
             const uint8_t question[] = {0x20, 0x84, number};
 
-            answer = bujorelm_handle_datagram(1, 0, at, size, NULL, 0, memory, 1, &lock, question, 3, reply, sizeof reply);
+            bujorelm_handle_datagram(1, 0, at, size, NULL, 0, memory, 1, &registers, question, 3, reply, sizeof reply, lent_result());
+            answer = given_result();
             if (size / 16 > 16) {
                 CHECK(is_error(answer, BUJORELM_ERROR_B11_TOO_MANY_SPACES));
             } else {
@@ -1538,9 +1541,9 @@ static void test_table_sizes(void)
     }
     /* Sizes that no table has, over a page that cannot be touched. */
     for (size_t i = 0; i < sizeof too_large / sizeof too_large[0]; i++) {
-        answer = bujorelm_handle_datagram(1, 0, (const struct bujorelm_space *)(const void *)none.bytes, too_large[i], NULL, 0, memory, 1,
-                                          &lock, NULL, 0, reply, sizeof reply);
-        CHECK(is_error(answer, BUJORELM_ERROR_B11_TOO_MANY_SPACES));
+        bujorelm_handle_datagram(1, 0, (const struct bujorelm_space *)(const void *)none.bytes, too_large[i], NULL, 0, memory, 1, &registers,
+                                 NULL, 0, reply, sizeof reply, lent_result());
+        CHECK(is_error(given_result(), BUJORELM_ERROR_B11_TOO_MANY_SPACES));
     }
     guarded_free(&none);
 
@@ -2215,7 +2218,7 @@ static void test_ticks_of_free_places(unsigned step)
 
         memset(&before, 0, sizeof before);
         b.tick = opened.tick;
-        CHECK(is_joined(bujorelm_handle_tick(&before, (uint16_t)tick)) && is_zero(&before, sizeof before));
+        CHECK(is_joined(handle_tick(&before, (uint16_t)tick)) && is_zero(&before, sizeof before));
         for (size_t i = 0; i < BUJORELM_PLACES; i++) {
             before.places[i] = (struct bujorelm_place){
                 .len = (uint8_t)tick, .source = (uint16_t)~tick, .tick = (uint16_t)(tick + 3000 * i), .swallowing = (uint8_t)i, .unused = 0xFF};
@@ -2966,7 +2969,7 @@ static void test_lines(void)
         struct bujorelm_parsed p;
 
         memcpy(line.bytes, bad[i], len);
-        p = bujorelm_parse_line(line.bytes, len);
+        p = parse_line(line.bytes, len);
         CHECK_CASE(!p.good && p.frame.header == 0 && p.frame.len == 0, bad[i]);
         guarded_free(&line);
     }
@@ -2983,23 +2986,23 @@ static void test_lines(void)
             struct guarded out = guarded_new(at + printed, false);
 
             memset(out.bytes, UNTOUCHED, out.len);
-            CHECK_CASE(bujorelm_print_frame(frame, out.bytes, out.len, at) == at + printed, expected);
+            CHECK_CASE(print_frame(frame, out.bytes, out.len, at) == at + printed, expected);
             CHECK_CASE(is_untouched(out.bytes, 0, at) && memcmp(out.bytes + at, expected, printed) == 0, expected);
             /* A byte short, it is not printed. */
             memset(out.bytes, UNTOUCHED, out.len);
-            CHECK_CASE(bujorelm_print_frame(frame, out.bytes, out.len, at + 1) == at + 1, expected);
-            CHECK_CASE(bujorelm_print_frame(frame, out.bytes, out.len - 1, at) == at, expected);
-            CHECK_CASE(bujorelm_print_frame(frame, out.bytes, out.len, out.len) == out.len, expected);
-            CHECK_CASE(bujorelm_print_frame(frame, out.bytes, out.len, out.len + 1) == out.len + 1, expected);
-            CHECK_CASE(bujorelm_print_frame(frame, out.bytes, out.len, SIZE_MAX) == SIZE_MAX, expected);
+            CHECK_CASE(print_frame(frame, out.bytes, out.len, at + 1) == at + 1, expected);
+            CHECK_CASE(print_frame(frame, out.bytes, out.len - 1, at) == at, expected);
+            CHECK_CASE(print_frame(frame, out.bytes, out.len, out.len) == out.len, expected);
+            CHECK_CASE(print_frame(frame, out.bytes, out.len, out.len + 1) == out.len + 1, expected);
+            CHECK_CASE(print_frame(frame, out.bytes, out.len, SIZE_MAX) == SIZE_MAX, expected);
             CHECK_CASE(is_untouched(out.bytes, 0, out.len), expected);
             guarded_free(&out);
         }
         /* And is read back, without its newline. */
-        p = bujorelm_parse_line((const uint8_t *)expected, printed - 1);
+        p = parse_line((const uint8_t *)expected, printed - 1);
         CHECK_CASE(p.good && p.frame.header == frame.header && p.frame.len == len, expected);
         CHECK_CASE(memcmp(p.frame.bytes, frame.bytes, len) == 0, expected);
-        CHECK_CASE(!bujorelm_parse_line((const uint8_t *)expected, printed).good, expected);
+        CHECK_CASE(!parse_line((const uint8_t *)expected, printed).good, expected);
     }
     /* Frames that have no line. */
     for (uint32_t len = 9; len <= 600; len++) {
@@ -3007,15 +3010,15 @@ static void test_lines(void)
 
         memset(out, UNTOUCHED, sizeof out);
         frame.len = len;
-        CHECK(bujorelm_print_frame(frame, out, sizeof out, 5) == 5 && is_untouched(out, 0, sizeof out));
+        CHECK(print_frame(frame, out, sizeof out, 5) == 5 && is_untouched(out, 0, sizeof out));
         /* Lengths whose low bits alone would do. */
         frame.len = len << 16;
-        CHECK(bujorelm_print_frame(frame, out, sizeof out, 5) == 5 && is_untouched(out, 0, sizeof out));
+        CHECK(print_frame(frame, out, sizeof out, 5) == 5 && is_untouched(out, 0, sizeof out));
         frame.len = UINT32_MAX - len;
-        CHECK(bujorelm_print_frame(frame, out, sizeof out, 5) == 5 && is_untouched(out, 0, sizeof out));
+        CHECK(print_frame(frame, out, sizeof out, 5) == 5 && is_untouched(out, 0, sizeof out));
     }
     /* Every header of eight digits is read. */
-    CHECK(bujorelm_parse_line((const uint8_t *)":XFFFFFFFFN;", 12).frame.header == 0xFFFFFFFFu);
+    CHECK(parse_line((const uint8_t *)":XFFFFFFFFN;", 12).frame.header == 0xFFFFFFFFu);
 }
 
 /* A frame's line is the one that printf prints, and stands for the frame. */
@@ -3030,8 +3033,8 @@ static void check_digits(const struct bujorelm_frame *frame)
         len += snprintf(expected + len, sizeof expected - (size_t)len, "%02X", frame->bytes[i]);
     }
     len += snprintf(expected + len, sizeof expected - (size_t)len, ";\n");
-    CHECK_CASE(bujorelm_print_frame(*frame, out, sizeof out, 0) == (size_t)len && memcmp(out, expected, (size_t)len) == 0, expected);
-    p = bujorelm_parse_line(out, (size_t)len - 1);
+    CHECK_CASE(print_frame(*frame, out, sizeof out, 0) == (size_t)len && memcmp(out, expected, (size_t)len) == 0, expected);
+    p = parse_line(out, (size_t)len - 1);
     CHECK_CASE(p.good && p.frame.header == frame->header && p.frame.len == frame->len, expected);
     CHECK_CASE(memcmp(p.frame.bytes, frame->bytes, frame->len) == 0, expected);
 }
@@ -3067,7 +3070,7 @@ static void test_digits(void)
 
             memcpy(text, line, sizeof text);
             text[at] = (uint8_t)byte;
-            CHECK(bujorelm_parse_line(text, sizeof text).good == (byte != 0 && strchr(digits, (int)byte) != NULL));
+            CHECK(parse_line(text, sizeof text).good == (byte != 0 && strchr(digits, (int)byte) != NULL));
         }
     }
 }
@@ -3101,12 +3104,12 @@ static struct lines lines_of(const uint8_t *text, size_t len)
 
     for (size_t i = 0; i < len; i++) {
         if (text[i] == '\n') {
-            lines_add(&lines, bujorelm_parse_line(text + begun, i - begun));
+            lines_add(&lines, parse_line(text + begun, i - begun));
             begun = i + 1;
         }
     }
     if (begun != len) {
-        lines_add(&lines, bujorelm_parse_line(text + begun, len - begun));
+        lines_add(&lines, parse_line(text + begun, len - begun));
     }
     return lines;
 }
@@ -3128,23 +3131,23 @@ static void split_chunk(struct lines *lines, struct bujorelm_carry *carry, const
     size_t at = 0;
 
     while (at < len) {
-        const struct bujorelm_line line = bujorelm_next_line(chunk, len, at, *carry);
+        const struct line_step step = next_line(chunk, len, at, *carry);
         const uint8_t *const newline = memchr(chunk + at, '\n', len - at);
 
-        CHECK(line.complete == (newline != NULL));
-        CHECK(line.at == (newline == NULL ? len : (size_t)(newline - chunk) + 1));
-        if (line.complete) {
-            CHECK(is_zero(&line.carry, sizeof line.carry));
-            lines_add(lines, line.parsed);
+        CHECK(step.line.complete == (newline != NULL));
+        CHECK(step.at == (newline == NULL ? len : (size_t)(newline - chunk) + 1));
+        if (step.line.complete) {
+            CHECK(is_zero(&step.carry, sizeof step.carry));
+            lines_add(lines, step.line.parsed);
         } else {
-            CHECK(!line.parsed.good && is_zero(&line.parsed.frame, sizeof line.parsed.frame));
+            CHECK(!step.line.parsed.good && is_zero(&step.line.parsed.frame, sizeof step.line.parsed.frame));
         }
-        if (line.at <= at) {
-            CHECK(line.at > at);
+        if (step.at <= at) {
+            CHECK(step.at > at);
             return;
         }
-        *carry = line.carry;
-        at = line.at;
+        *carry = step.carry;
+        at = step.at;
     }
 }
 
@@ -3153,18 +3156,18 @@ static struct lines split(const struct guarded *room, const uint8_t *text, size_
 {
     struct lines lines = {.count = 0};
     struct bujorelm_carry carry;
-    struct bujorelm_line last;
+    struct line_step last;
 
     memset(&carry, 0, sizeof carry);
     split_chunk(&lines, &carry, room, text, first);
     split_chunk(&lines, &carry, room, text + first, second - first);
     split_chunk(&lines, &carry, room, text + second, len - second);
-    last = bujorelm_last_line(carry);
-    CHECK(is_zero(&last.carry, sizeof last.carry) && last.at == 0);
-    if (last.complete) {
-        lines_add(&lines, last.parsed);
+    last = last_line(carry);
+    CHECK(is_zero(&last.carry, sizeof last.carry));
+    if (last.line.complete) {
+        lines_add(&lines, last.line.parsed);
     } else {
-        CHECK(!last.parsed.good && is_zero(&last.parsed.frame, sizeof last.parsed.frame));
+        CHECK(!last.line.parsed.good && is_zero(&last.line.parsed.frame, sizeof last.line.parsed.frame));
     }
     return lines;
 }
@@ -3208,7 +3211,7 @@ static void test_carries(void)
 
     for (unsigned turn = 0; turn < 4 * 256; turn++) {
         struct bujorelm_carry carry;
-        struct bujorelm_line line;
+        struct line_step step;
         const size_t len = turn % 256;
         const size_t begun = len < 29 ? len : 29;
 
@@ -3237,43 +3240,50 @@ static void test_carries(void)
             }
             memcpy(joined, carry.text, begun);
             memcpy(joined + begun, chunk + from, end - from);
-            expected = bujorelm_parse_line(joined, begun + end - from);
-            line = bujorelm_next_line(chunk, 31, froms[i], carry);
-            CHECK(line.complete == (end < 31) && line.at == (end < 31 ? end + 1 : 31));
-            if (line.complete) {
-                CHECK(same_parsed(&line.parsed, &expected) && is_zero(&line.carry, sizeof line.carry));
+            expected = parse_line(joined, begun + end - from);
+            step = next_line(chunk, 31, froms[i], carry);
+            CHECK(step.line.complete == (end < 31) && step.at == (end < 31 ? end + 1 : 31));
+            if (step.line.complete) {
+                CHECK(same_parsed(&step.line.parsed, &expected) && is_zero(&step.carry, sizeof step.carry));
             } else {
-                CHECK(!line.parsed.good && line.carry.len == begun && memcmp(line.carry.text, carry.text, begun) == 0);
+                CHECK(!step.line.parsed.good && step.carry.len == begun && memcmp(step.carry.text, carry.text, begun) == 0);
             }
         }
-        line = bujorelm_last_line(carry);
-        CHECK(line.complete == (len != 0) && line.at == 0 && is_zero(&line.carry, sizeof line.carry));
-        if (line.complete) {
-            const struct bujorelm_parsed expected = bujorelm_parse_line(carry.text, begun);
+        step = last_line(carry);
+        CHECK(step.line.complete == (len != 0) && is_zero(&step.carry, sizeof step.carry));
+        if (step.line.complete) {
+            const struct bujorelm_parsed expected = parse_line(carry.text, begun);
 
-            CHECK(same_parsed(&line.parsed, &expected));
+            CHECK(same_parsed(&step.line.parsed, &expected));
         }
     }
 }
 
-/* A step as bytes: where each of its parts lies, as the library has it. */
+/* Lines and steps as bytes: where each of their parts lies, as the library has it. */
 static void test_line_bytes(void)
 {
     static const char text[] = ":X1234ABCDN0102;\n:X5";
-    struct bujorelm_carry carry;
-    struct bujorelm_line line;
-    uint8_t bytes[64];
-    uint8_t parsed[20] = {1, 0, 0, 0, 0xCD, 0xAB, 0x34, 0x12, 2, 0, 0, 0, 1, 2};
+    static const uint8_t line[24] = {1, 0, 0, 0, 1, 0, 0, 0, 0xCD, 0xAB, 0x34, 0x12, 2, 0, 0, 0, 1, 2};
+    struct bujorelm_carry *const carry = room_for(32);
+    struct bujorelm_line *const found = room_for(24);
+    struct bujorelm_parsed *const parsed = room_for(20);
 
-    memset(&carry, 0, sizeof carry);
-    line = bujorelm_next_line((const uint8_t *)text, sizeof text - 1, 0, carry);
-    memcpy(bytes, &line, sizeof bytes);
-    CHECK(bytes[0] == 1 && bytes[4] == 1 && memcmp(bytes + 8, parsed + 4, 16) == 0 && is_zero(bytes + 24, 30));
-    CHECK(bytes[56] == 17 && is_zero(bytes + 57, 7));
-    line = bujorelm_next_line((const uint8_t *)text, sizeof text - 1, 17, line.carry);
-    memcpy(bytes, &line, sizeof bytes);
-    CHECK(bytes[0] == 0 && bytes[4] == 0 && is_zero(bytes + 8, 16));
-    CHECK(memcmp(bytes + 24, "\003:X5", 4) == 0 && is_zero(bytes + 28, 26) && bytes[56] == 20);
+    memset(carry, 0, 32);
+    CHECK(bujorelm_next_line((const uint8_t *)text, sizeof text - 1, 0, carry, found) == 17);
+    CHECK(memcmp(found, line, 24) == 0 && is_zero(carry, 32));
+    CHECK(bujorelm_next_line((const uint8_t *)text, sizeof text - 1, 17, carry, found) == 20);
+    CHECK(is_zero(found, 24) && memcmp(carry, "\003:X5", 4) == 0 && is_zero((const uint8_t *)carry + 4, 28));
+    memset(found, UNTOUCHED, 24);
+    bujorelm_last_line(carry, found);
+    CHECK(((const uint8_t *)found)[0] == 1 && is_zero((const uint8_t *)found + 1, 23) && is_zero(carry, 32));
+    memset(found, UNTOUCHED, 24);
+    bujorelm_last_line(carry, found);
+    CHECK(is_zero(found, 24) && is_zero(carry, 32));
+    /* A line by itself is what stands behind the first four bytes of that. */
+    bujorelm_parse_line((const uint8_t *)text, 16, parsed);
+    CHECK(memcmp(parsed, line + 4, 20) == 0);
+    bujorelm_parse_line((const uint8_t *)text, 15, parsed);
+    CHECK(is_zero(parsed, 20));
 }
 
 /* ---- The inline functions ---- */
@@ -3392,7 +3402,7 @@ static void test_node_start(void)
 
     memset(&node, UNTOUCHED, sizeof node);
     bujorelm_node_start(&node, &demonstration_description, demonstration_flash, sizeof demonstration_flash, memory, sizeof memory);
-    CHECK(memcmp(&node.lock, zeros, sizeof node.lock) == 0 && memcmp(&node.reception, zeros, sizeof node.reception) == 0);
+    CHECK(memcmp(&node.registers, zeros, sizeof node.registers) == 0 && memcmp(&node.reception, zeros, sizeof node.reception) == 0);
     CHECK(memcmp(node.pool, zeros, sizeof node.pool) == 0);
     CHECK(is_untouched(node.reply, 0, sizeof node.reply) && is_untouched((const uint8_t *)node.frames, 0, sizeof node.frames));
     CHECK(node.description.alias == 0x22B && node.description.write_lengths == 0xF2 && node.description.count == 4);
@@ -3404,8 +3414,9 @@ static void test_node_start(void)
 static void test_accessors(void)
 {
     for (unsigned number = 0; number <= 14; number++) {
-        struct bujorelm_result result = {.error = (uint8_t)number, .code = (uint16_t)(0x1080 + number)};
+        struct bujorelm_result result = {.kind = number, .error = (uint8_t)number, .code = (uint16_t)(0x1080 + number)};
 
+        CHECK(bujorelm_kind_of(result) == (enum bujorelm_kind)number);
         CHECK(bujorelm_error_of(result) == (enum bujorelm_error)number);
         CHECK(bujorelm_code_of(result) == (enum bujorelm_code)(0x1080 + number));
     }
@@ -3418,7 +3429,7 @@ static void test_position_of(void)
         for (unsigned error = 0; error <= 0xFF; error++) {
             for (unsigned position = 0; position <= 0xFF; position++) {
                 const struct bujorelm_result result = {
-                    .kind = (enum bujorelm_kind)kind, .error = (uint8_t)error, .position = (uint8_t)position};
+                    .kind = kind, .error = (uint8_t)error, .position = (uint8_t)position};
                 const bool brings_one = kind == 0 && error >= 2 && error <= 5 && position < 16;
                 size_t stored = 77;
 
@@ -3432,7 +3443,7 @@ static void test_position_of(void)
 /* The sentence of a result; nothing is written behind its zero byte, and that is within the size. */
 static bool says(uint8_t kind, uint8_t error, uint8_t position, const char *sentence)
 {
-    const struct bujorelm_result result = {.kind = (enum bujorelm_kind)kind, .error = error, .position = position};
+    const struct bujorelm_result result = {.kind = kind, .error = error, .position = position};
     char text[BUJORELM_SENTENCE_SIZE + 1];
 
     memset(text, UNTOUCHED, sizeof text);
@@ -3934,7 +3945,7 @@ static void random_session(unsigned long frames)
     random_bytes(b.node.pool, sizeof b.node.pool);
     memcpy(flash, b.flash.bytes, flash_len);
     memcpy(memory, b.memory.bytes, memory_len);
-    memcpy(lock, b.node.lock.bytes, 6);
+    memcpy(lock, b.node.registers.lock, 6);
     refused = bujorelm_node_check(&b.node);
     if (refused.kind != BUJORELM_REFUSED && reply_len < 72) {
         refused = (struct bujorelm_result){.kind = BUJORELM_REFUSED,
@@ -3997,16 +4008,17 @@ static void random_session(unsigned long frames)
                 CHECK(is_answer(answer, e.kind, 0, 0, e.kind == BUJORELM_TRANSPORT_REFUSAL ? e.code : 0, 0));
             } else {
                 /* The datagram that the book finishes, handed over whole, gives the same answer, reply, memory and lock. */
-                struct bujorelm_lock held;
+                struct bujorelm_registers held;
                 uint8_t reply[80];
                 uint8_t old[256];
                 struct bujorelm_result whole;
 
-                memcpy(held.bytes, lock, 6);
+                memcpy(held.lock, lock, 6);
                 memcpy(old, memory, memory_len);
                 memset(reply, UNTOUCHED, sizeof reply);
-                whole = bujorelm_handle_datagram(d.alias, d.write_lengths, d.spaces, bujorelm_spaces_size(d.count), flash, flash_len,
-                                                 memory, memory_len, &held, e.bytes, e.len, reply, reply_len);
+                bujorelm_handle_datagram(d.alias, d.write_lengths, d.spaces, bujorelm_spaces_size(d.count), flash, flash_len, memory,
+                                         memory_len, &held, e.bytes, e.len, reply, reply_len, lent_result());
+                whole = given_result();
                 CHECK(same_result(answer, whole) && whole.frame_count == 0);
                 CHECK(answer.kind >= BUJORELM_REJECTED && answer.kind <= BUJORELM_UPDATE_COMPLETE);
                 written = answer.reply_len;
@@ -4024,9 +4036,9 @@ static void random_session(unsigned long frames)
                 }
                 CHECK((answer.kind == BUJORELM_UPDATE_COMPLETE) == (e.len == 2 && memcmp(e.bytes, "\x20\xA8", 2) == 0));
                 if (answer.kind != BUJORELM_REPLIED || e.bytes[1] != 0x88) {
-                    CHECK(memcmp(held.bytes, lock, 6) == 0);
+                    CHECK(memcmp(held.lock, lock, 6) == 0);
                 }
-                memcpy(lock, held.bytes, 6);
+                memcpy(lock, held.lock, 6);
             }
             for (size_t i = 0; i < SOURCES; i++) {
                 CHECK(state_has(&b.node, aliases[i], &books[i]));
@@ -4042,7 +4054,7 @@ static void random_session(unsigned long frames)
             }
         }
         CHECK(memcmp(b.memory.bytes, memory, memory_len) == 0);
-        CHECK(memcmp(b.node.lock.bytes, lock, 6) == 0);
+        CHECK(memcmp(b.node.registers.lock, lock, 6) == 0);
         CHECK(is_untouched(b.reply.bytes, written, reply_len));
     }
     guarded_free(&payload);

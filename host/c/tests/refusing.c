@@ -9,20 +9,18 @@
 #include <stdio.h>
 #include <stdlib.h>
 
-struct bujorelm_result __real_bujorelm_handle_frame(uint16_t alias, uint8_t write_lengths, const struct bujorelm_space *spaces,
-                                                    size_t spaces_size, const uint8_t *flash, size_t flash_len, uint8_t *memory,
-                                                    size_t memory_len, struct bujorelm_lock *lock, uint8_t *pool,
-                                                    struct bujorelm_reception *reception, uint16_t tick, uint32_t header,
-                                                    const uint8_t *payload, size_t payload_len, uint8_t *reply, size_t reply_len,
-                                                    struct bujorelm_frame *frames);
-struct bujorelm_result __wrap_bujorelm_handle_frame(uint16_t alias, uint8_t write_lengths, const struct bujorelm_space *spaces,
-                                                    size_t spaces_size, const uint8_t *flash, size_t flash_len, uint8_t *memory,
-                                                    size_t memory_len, struct bujorelm_lock *lock, uint8_t *pool,
-                                                    struct bujorelm_reception *reception, uint16_t tick, uint32_t header,
-                                                    const uint8_t *payload, size_t payload_len, uint8_t *reply, size_t reply_len,
-                                                    struct bujorelm_frame *frames);
-struct bujorelm_result __real_bujorelm_handle_tick(struct bujorelm_reception *reception, uint16_t tick);
-struct bujorelm_result __wrap_bujorelm_handle_tick(struct bujorelm_reception *reception, uint16_t tick);
+void __real_bujorelm_handle_frame(uint16_t alias, uint8_t write_lengths, const struct bujorelm_space *spaces, uint64_t spaces_size,
+                                  const uint8_t *flash, uint64_t flash_len, uint8_t *memory, uint64_t memory_len,
+                                  struct bujorelm_registers *registers, uint8_t *pool, struct bujorelm_reception *reception, uint16_t tick,
+                                  uint32_t header, const uint8_t *payload, uint64_t payload_len, uint8_t *reply, uint64_t reply_len,
+                                  struct bujorelm_frame *frames, struct bujorelm_result *result);
+void __wrap_bujorelm_handle_frame(uint16_t alias, uint8_t write_lengths, const struct bujorelm_space *spaces, uint64_t spaces_size,
+                                  const uint8_t *flash, uint64_t flash_len, uint8_t *memory, uint64_t memory_len,
+                                  struct bujorelm_registers *registers, uint8_t *pool, struct bujorelm_reception *reception, uint16_t tick,
+                                  uint32_t header, const uint8_t *payload, uint64_t payload_len, uint8_t *reply, uint64_t reply_len,
+                                  struct bujorelm_frame *frames, struct bujorelm_result *result);
+void __real_bujorelm_handle_tick(struct bujorelm_reception *reception, uint16_t tick, struct bujorelm_result *result);
+void __wrap_bujorelm_handle_tick(struct bujorelm_reception *reception, uint16_t tick, struct bujorelm_result *result);
 
 /* What REFUSAL says. */
 struct refusal {
@@ -47,27 +45,31 @@ static struct refusal refusal_wanted(void)
     return wanted;
 }
 
-struct bujorelm_result __wrap_bujorelm_handle_frame(uint16_t alias, uint8_t write_lengths, const struct bujorelm_space *spaces,
-                                                    size_t spaces_size, const uint8_t *flash, size_t flash_len, uint8_t *memory,
-                                                    size_t memory_len, struct bujorelm_lock *lock, uint8_t *pool,
-                                                    struct bujorelm_reception *reception, uint16_t tick, uint32_t header,
-                                                    const uint8_t *payload, size_t payload_len, uint8_t *reply, size_t reply_len,
-                                                    struct bujorelm_frame *frames)
+void __wrap_bujorelm_handle_frame(uint16_t alias, uint8_t write_lengths, const struct bujorelm_space *spaces, uint64_t spaces_size,
+                                  const uint8_t *flash, uint64_t flash_len, uint8_t *memory, uint64_t memory_len,
+                                  struct bujorelm_registers *registers, uint8_t *pool, struct bujorelm_reception *reception, uint16_t tick,
+                                  uint32_t header, const uint8_t *payload, uint64_t payload_len, uint8_t *reply, uint64_t reply_len,
+                                  struct bujorelm_frame *frames, struct bujorelm_result *result)
 {
     static unsigned frames_before = 0;
     const struct refusal wanted = refusal_wanted();
 
     if (frames_before++ >= wanted.frames) {
-        return wanted.result;
+        *result = wanted.result;
+    } else {
+        __real_bujorelm_handle_frame(alias, write_lengths, spaces, spaces_size, flash, flash_len, memory, memory_len, registers, pool,
+                                     reception, tick, header, payload, payload_len, reply, reply_len, frames, result);
     }
-    return __real_bujorelm_handle_frame(alias, write_lengths, spaces, spaces_size, flash, flash_len, memory, memory_len, lock, pool,
-                                        reception, tick, header, payload, payload_len, reply, reply_len, frames);
 }
 
-struct bujorelm_result __wrap_bujorelm_handle_tick(struct bujorelm_reception *reception, uint16_t tick)
+void __wrap_bujorelm_handle_tick(struct bujorelm_reception *reception, uint16_t tick, struct bujorelm_result *result)
 {
     static unsigned ticks_before = 0;
     const struct refusal wanted = refusal_wanted();
 
-    return ticks_before++ >= wanted.ticks ? wanted.result : __real_bujorelm_handle_tick(reception, tick);
+    if (ticks_before++ >= wanted.ticks) {
+        *result = wanted.result;
+    } else {
+        __real_bujorelm_handle_tick(reception, tick, result);
+    }
 }

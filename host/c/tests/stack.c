@@ -71,13 +71,15 @@ static void measure_lines(void)
 
     for (size_t i = 0; i < sizeof cuts / sizeof cuts[0]; i++) {
         const size_t cut = cuts[i];
+        struct bujorelm_carry left;
 
         memset(&subject.carry, 0, sizeof subject.carry);
         subject.from = 0;
         subject.printed = cut;
         measure(NEXT_LINE);
-        subject.carry = subject.line.carry;
+        left = subject.carry;
         measure(LAST_LINE);
+        subject.carry = left;
         subject.from = cut;
         subject.printed = printed;
         measure(NEXT_LINE);

@@ -12,7 +12,7 @@ struct subject {
     uint8_t reply[BUJORELM_REPLY_MIN];
     uint8_t text[BUJORELM_PRINTED_MAX];
     uint8_t datagram[80];
-    size_t datagram_len;
+    uint64_t datagram_len;
     uint16_t tick;
     struct bujorelm_frame frame;
     struct bujorelm_frame frames[BUJORELM_SENT_MAX];
@@ -20,10 +20,11 @@ struct subject {
     struct bujorelm_parsed parsed;
     struct bujorelm_carry carry;
     struct bujorelm_line line;
-    size_t from;
+    uint64_t from;
+    uint64_t at;
     uint32_t version;
-    size_t count;
-    size_t printed;
+    uint64_t count;
+    uint64_t printed;
 };
 
 extern struct subject subject;

@@ -6,24 +6,23 @@
 
 void call_handle_frame(void)
 {
-    subject.answer = bujorelm_handle_frame(subject.node.description.alias, subject.node.description.write_lengths,
-                                           subject.node.description.spaces, 16 * subject.node.description.count, subject.flash,
-                                           sizeof subject.flash, subject.memory, sizeof subject.memory, &subject.node.lock,
-                                           subject.node.pool, &subject.node.reception, subject.tick, subject.frame.header,
-                                           subject.frame.bytes, subject.frame.len, subject.reply, sizeof subject.reply, subject.frames);
+    bujorelm_handle_frame(subject.node.description.alias, subject.node.description.write_lengths, subject.node.description.spaces,
+                          16 * subject.node.description.count, subject.flash, sizeof subject.flash, subject.memory, sizeof subject.memory,
+                          &subject.node.registers, subject.node.pool, &subject.node.reception, subject.tick, subject.frame.header,
+                          subject.frame.bytes, subject.frame.len, subject.reply, sizeof subject.reply, subject.frames, &subject.answer);
 }
 
 void call_handle_tick(void)
 {
-    subject.answer = bujorelm_handle_tick(&subject.node.reception, subject.tick);
+    bujorelm_handle_tick(&subject.node.reception, subject.tick, &subject.answer);
 }
 
 void call_handle_datagram(void)
 {
-    subject.answer = bujorelm_handle_datagram(subject.node.description.alias, subject.node.description.write_lengths,
-                                              subject.node.description.spaces, 16 * subject.node.description.count, subject.flash,
-                                              sizeof subject.flash, subject.memory, sizeof subject.memory, &subject.node.lock,
-                                              subject.datagram, subject.datagram_len, subject.reply, sizeof subject.reply);
+    bujorelm_handle_datagram(subject.node.description.alias, subject.node.description.write_lengths, subject.node.description.spaces,
+                             16 * subject.node.description.count, subject.flash, sizeof subject.flash, subject.memory, sizeof subject.memory,
+                             &subject.node.registers, subject.datagram, subject.datagram_len, subject.reply, sizeof subject.reply,
+                             &subject.answer);
 }
 
 void call_cut(void)
@@ -43,22 +42,22 @@ void call_rejected(void)
 
 void call_print_frame(void)
 {
-    subject.printed = bujorelm_print_frame(subject.frame, subject.text, sizeof subject.text, 0);
+    subject.printed = bujorelm_print_frame(&subject.frame, subject.text, sizeof subject.text, 0);
 }
 
 void call_parse_line(void)
 {
-    subject.parsed = bujorelm_parse_line(subject.text, subject.printed == 0 ? 0 : subject.printed - 1);
+    bujorelm_parse_line(subject.text, subject.printed == 0 ? 0 : subject.printed - 1, &subject.parsed);
 }
 
 void call_next_line(void)
 {
-    subject.line = bujorelm_next_line(subject.text, subject.printed, subject.from, subject.carry);
+    subject.at = bujorelm_next_line(subject.text, subject.printed, subject.from, &subject.carry, &subject.line);
 }
 
 void call_last_line(void)
 {
-    subject.line = bujorelm_last_line(subject.carry);
+    bujorelm_last_line(&subject.carry, &subject.line);
 }
 
 void call_version(void)

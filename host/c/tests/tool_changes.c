@@ -149,7 +149,7 @@ static void test_put_together(void)
     };
 
     for (size_t i = 0; i < sizeof cases / sizeof cases[0]; i++) {
-        CHECK_CASE(is_same(bujorelm_put_together(cases[i].earlier, cases[i].later), cases[i].wanted), cases[i].word);
+        CHECK_CASE(is_same(put_together(cases[i].earlier, cases[i].later), cases[i].wanted), cases[i].word);
     }
 }
 
@@ -160,8 +160,8 @@ static void check_untouching(struct bujorelm_pair pair)
     const struct bujorelm_pair idle = {0, (uint8_t)random_number()};
     const struct bujorelm_pair bare = one_of(nothing, pair);
 
-    CHECK(is_same(bujorelm_put_together(nothing, pair), bare) && is_same(bujorelm_put_together(pair, nothing), bare));
-    CHECK(is_same(bujorelm_put_together(idle, pair), bare) && is_same(bujorelm_put_together(pair, idle), bare));
+    CHECK(is_same(put_together(nothing, pair), bare) && is_same(put_together(pair, nothing), bare));
+    CHECK(is_same(put_together(idle, pair), bare) && is_same(put_together(pair, idle), bare));
 }
 
 /* A pair beside it, which touches none of its bits: either may be the later. */
@@ -175,7 +175,7 @@ static void check_either_order(struct bujorelm_pair pair)
         }
     }
     other.data = (uint8_t)random_number();
-    CHECK(is_same(bujorelm_put_together(pair, other), bujorelm_put_together(other, pair)));
+    CHECK(is_same(put_together(pair, other), put_together(other, pair)));
 }
 
 /* With 65,536 rounds every pair of masks comes once, and with fewer still masks of every sort, since the factor is odd. Data are any, outside the
@@ -187,11 +187,11 @@ static void random_pairs(unsigned long count)
         const struct bujorelm_pair earlier = {(uint8_t)(masks / 256), (uint8_t)random_number()};
         const struct bujorelm_pair later = {(uint8_t)(masks % 256), (uint8_t)random_number()};
         const struct bujorelm_pair last = random_pair();
-        const struct bujorelm_pair one = bujorelm_put_together(earlier, later);
+        const struct bujorelm_pair one = put_together(earlier, later);
 
         CHECK(is_same(one, one_of(earlier, later)) && is_zero_outside(one));
         CHECK(does_both(one, earlier, later));
-        CHECK(is_same(bujorelm_put_together(one, last), bujorelm_put_together(earlier, bujorelm_put_together(later, last))));
+        CHECK(is_same(put_together(one, last), put_together(earlier, put_together(later, last))));
         check_untouching(earlier);
         check_either_order(later);
     }
@@ -298,8 +298,8 @@ static struct bujorelm_change next_change(const struct images *images, size_t fr
     struct bujorelm_change got;
 
     memset(images->room.all.bytes, UNTOUCHED, images->room.all.len);
-    got = bujorelm_next_change(images->before.bytes, images->before.len, images->after.bytes, images->after.len, from, images->room.pairs,
-                               images->room.len);
+    got = change_between(images->before.bytes, images->before.len, images->after.bytes, images->after.len, from, images->room.pairs,
+                         images->room.len);
     CHECK(is_same_change(got, wanted));
     CHECK(wanted.count == 0 || memcmp(images->room.pairs, pairs, 2 * wanted.count) == 0);
     CHECK(is_kept(&images->room, 2 * wanted.count));
@@ -442,13 +442,13 @@ static void test_null(void)
     const uint8_t byte = 1;
 
     memset(pairs, UNTOUCHED, sizeof pairs);
-    CHECK(is_refused(bujorelm_next_change(NULL, 0, NULL, 0, 0, pairs, 64), BUJORELM_CHANGE_NOT_REFUSED));
-    CHECK(is_refused(bujorelm_next_change(NULL, 0, NULL, 0, SIZE_MAX, pairs, 64), BUJORELM_CHANGE_NOT_REFUSED));
-    CHECK(is_refused(bujorelm_next_change(NULL, 0, NULL, 0, 0, NULL, 0), BUJORELM_CHANGE_REFUSED_ROOM));
-    CHECK(is_refused(bujorelm_next_change(&byte, 1, &byte, 1, 0, NULL, 0), BUJORELM_CHANGE_REFUSED_ROOM));
-    CHECK(is_refused(bujorelm_next_change(NULL, 0, &byte, 1, 0, pairs, 64), BUJORELM_CHANGE_REFUSED_LENGTHS));
-    CHECK(is_refused(bujorelm_next_change(&byte, 1, NULL, 0, 0, pairs, 64), BUJORELM_CHANGE_REFUSED_LENGTHS));
-    CHECK(is_refused(bujorelm_next_change(NULL, 0, &byte, 1, 0, NULL, 0), BUJORELM_CHANGE_REFUSED_LENGTHS));
+    CHECK(is_refused(change_between(NULL, 0, NULL, 0, 0, pairs, 64), BUJORELM_CHANGE_NOT_REFUSED));
+    CHECK(is_refused(change_between(NULL, 0, NULL, 0, SIZE_MAX, pairs, 64), BUJORELM_CHANGE_NOT_REFUSED));
+    CHECK(is_refused(change_between(NULL, 0, NULL, 0, 0, NULL, 0), BUJORELM_CHANGE_REFUSED_ROOM));
+    CHECK(is_refused(change_between(&byte, 1, &byte, 1, 0, NULL, 0), BUJORELM_CHANGE_REFUSED_ROOM));
+    CHECK(is_refused(change_between(NULL, 0, &byte, 1, 0, pairs, 64), BUJORELM_CHANGE_REFUSED_LENGTHS));
+    CHECK(is_refused(change_between(&byte, 1, NULL, 0, 0, pairs, 64), BUJORELM_CHANGE_REFUSED_LENGTHS));
+    CHECK(is_refused(change_between(NULL, 0, &byte, 1, 0, NULL, 0), BUJORELM_CHANGE_REFUSED_LENGTHS));
     CHECK(is_untouched(pairs, 0, sizeof pairs));
 }
 
@@ -535,14 +535,14 @@ static void test_overlap(void)
     uint8_t again[64];
 
     random_bytes(bytes, sizeof bytes);
-    CHECK(is_refused(bujorelm_next_change(bytes, 120, bytes, 120, 0, pairs, 64), BUJORELM_CHANGE_NOT_REFUSED));
+    CHECK(is_refused(change_between(bytes, 120, bytes, 120, 0, pairs, 64), BUJORELM_CHANGE_NOT_REFUSED));
     for (size_t by = 1; by <= 20; by++) {
         uint8_t copy[120];
         struct bujorelm_change change;
 
         memcpy(copy, bytes + by, sizeof copy - by);
-        change = bujorelm_next_change(bytes, 120 - by, bytes + by, 120 - by, by, pairs, 64);
-        CHECK(change.given && is_same_change(change, bujorelm_next_change(bytes, 120 - by, copy, 120 - by, by, again, 64)));
+        change = change_between(bytes, 120 - by, bytes + by, 120 - by, by, pairs, 64);
+        CHECK(change.given && is_same_change(change, change_between(bytes, 120 - by, copy, 120 - by, by, again, 64)));
         CHECK(memcmp(pairs, again, change.count <= REACH ? 2 * change.count : 0) == 0);
     }
 }
@@ -643,7 +643,8 @@ static void tool_start(struct tool *tool, uint8_t space, uint32_t address, struc
     tool->space = space;
     tool->address = address;
     tool->count = 0;
-    read.len = bujorelm_compose_read(space, address, SEEN, read.bytes, sizeof read.bytes).len;
+    bujorelm_compose_read(space, address, SEEN, read.bytes, sizeof read.bytes, lent_composed());
+    read.len = given_composed().len;
     result = tell(board, &read);
     reply = read_reply(board->node.reply, result.reply_len);
     CHECK(reply.kind == BUJORELM_REPLY_READ && reply.space == space && reply.address == address && reply.bytes.len == SEEN);
@@ -654,15 +655,15 @@ static void tool_start(struct tool *tool, uint8_t space, uint32_t address, struc
 static void tool_change(struct tool *tool, const uint8_t *image)
 {
     uint8_t pairs[BUJORELM_PAIRS_MIN];
-    const struct bujorelm_change change = bujorelm_next_change(tool->image, SEEN, image, SEEN, 0, pairs, sizeof pairs);
+    const struct bujorelm_change change = change_between(tool->image, SEEN, image, SEEN, 0, pairs, sizeof pairs);
 
     CHECK(change.refusal == BUJORELM_CHANGE_NOT_REFUSED);
     if (change.given) {
         struct command *const write = &tool->writes[tool->count++];
 
-        write->len = bujorelm_compose_masked_write(tool->space, tool->address + (uint32_t)change.start, pairs, 2 * change.count, write->bytes,
-                                                   sizeof write->bytes)
-                         .len;
+        bujorelm_compose_masked_write(tool->space, tool->address + (uint32_t)change.start, pairs, 2 * change.count, write->bytes,
+                                      sizeof write->bytes, lent_composed());
+        write->len = given_composed().len;
     }
     memcpy(tool->image, image, SEEN);
 }
@@ -758,7 +759,8 @@ static struct command plain_write(const struct tool *tool)
 {
     struct command write;
 
-    write.len = bujorelm_compose_write(tool->space, tool->address, tool->image, SEEN, write.bytes, sizeof write.bytes).len;
+    bujorelm_compose_write(tool->space, tool->address, tool->image, SEEN, write.bytes, sizeof write.bytes, lent_composed());
+    write.len = given_composed().len;
     return write;
 }
 
@@ -815,16 +817,19 @@ static void random_write(struct board *board, struct kept *kept)
     struct bujorelm_result result;
 
     random_bytes(bytes, sizeof bytes);
-    write.len = (masked ? bujorelm_compose_masked_write(space, address, bytes, len, write.bytes, sizeof write.bytes)
-                        : bujorelm_compose_write(space, address, bytes, len, write.bytes, sizeof write.bytes))
-                    .len;
+    if (masked) {
+        bujorelm_compose_masked_write(space, address, bytes, len, write.bytes, sizeof write.bytes, lent_composed());
+    } else {
+        bujorelm_compose_write(space, address, bytes, len, write.bytes, sizeof write.bytes, lent_composed());
+    }
+    write.len = given_composed().len;
     result = tell(board, &write);
     CHECK(result.kind != BUJORELM_WRITTEN || result.changed_len == (masked ? len / 2 : len));
     for (size_t i = 0; result.kind == BUJORELM_WRITTEN && i < result.changed_len; i++) {
         struct bujorelm_pair *const pair = &kept->pairs[result.changed_at + i];
         const struct bujorelm_pair written = {masked ? bytes[2 * i] : 0xFF, masked ? bytes[2 * i + 1] : bytes[i]};
 
-        *pair = bujorelm_put_together(*pair, written);
+        *pair = put_together(*pair, written);
     }
 }
 
@@ -841,7 +846,8 @@ static void send_kept(struct board *board, const struct kept *kept)
             pairs[2 * i] = kept->pairs[start + i].mask;
             pairs[2 * i + 1] = kept->pairs[start + i].data;
         }
-        write.len = bujorelm_compose_masked_write(0xFE, (uint32_t)start, pairs, 2 * count, write.bytes, sizeof write.bytes).len;
+        bujorelm_compose_masked_write(0xFE, (uint32_t)start, pairs, 2 * count, write.bytes, sizeof write.bytes, lent_composed());
+        write.len = given_composed().len;
         CHECK(tell(board, &write).kind == BUJORELM_WRITTEN);
     }
 }

@@ -3,8 +3,7 @@
 #ifndef BUJORELM_TOOL_CHECK_H
 #define BUJORELM_TOOL_CHECK_H
 
-#include "bujorelm_tool.h"
-#include "check.h"
+#include "tool_lent.h"
 
 #define UNTOUCHED 0xC7
 
@@ -59,7 +58,7 @@ static inline struct bujorelm_reply read_reply(const uint8_t *datagram, size_t l
     at_start = !at_start;
     memcpy(lent.bytes, datagram, len);
     guarded_read_only(&lent);
-    reply = bujorelm_read_reply(lent.bytes, len);
+    reply = reply_in(lent.bytes, len);
     guarded_free(&lent);
     return reply;
 }

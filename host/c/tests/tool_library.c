@@ -29,24 +29,34 @@ struct request {
 
 static struct bujorelm_composed compose(const struct request *r, uint8_t *buffer, size_t len)
 {
+    struct bujorelm_composed *const composed = lent_composed();
+
     switch (r->sort) {
     case READ:
-        return bujorelm_compose_read(r->space, r->address, r->count, buffer, len);
+        bujorelm_compose_read(r->space, r->address, r->count, buffer, len, composed);
+        break;
     case WRITE:
-        return bujorelm_compose_write(r->space, r->address, r->bytes, r->len, buffer, len);
+        bujorelm_compose_write(r->space, r->address, r->bytes, r->len, buffer, len, composed);
+        break;
     case MASKED:
-        return bujorelm_compose_masked_write(r->space, r->address, r->bytes, r->len, buffer, len);
+        bujorelm_compose_masked_write(r->space, r->address, r->bytes, r->len, buffer, len, composed);
+        break;
     case OPTIONS:
-        return bujorelm_compose_options(buffer, len);
+        bujorelm_compose_options(buffer, len, composed);
+        break;
     case INFORMATION:
-        return bujorelm_compose_information(r->space, buffer, len);
+        bujorelm_compose_information(r->space, buffer, len, composed);
+        break;
     case LOCK:
-        return bujorelm_compose_lock(r->bytes, r->len, buffer, len);
+        bujorelm_compose_lock(r->bytes, r->len, buffer, len, composed);
+        break;
     case UPDATE_COMPLETE:
     case SORTS:
     default:
-        return bujorelm_compose_update_complete(buffer, len);
+        bujorelm_compose_update_complete(buffer, len, composed);
+        break;
     }
+    return given_composed();
 }
 
 /* Whether W1 refuses the request, by its words in document 02 and not by the library. */
@@ -182,7 +192,8 @@ static void test_lock_bytes(void)
     static const uint8_t wanted[] = {0x20, 0x88, 0x05, 0x01, 0x01, 0x01, 0x18, 0xAB};
     uint8_t got[72];
 
-    CHECK(bujorelm_compose_lock(id, 6, got, sizeof got).len == 8 && memcmp(got, wanted, 8) == 0);
+    bujorelm_compose_lock(id, 6, got, sizeof got, lent_composed());
+    CHECK(given_composed().len == 8 && memcmp(got, wanted, 8) == 0);
     check_request((struct request){.sort = LOCK, .bytes = id, .len = 6});
     check_request((struct request){.sort = LOCK, .bytes = nobody, .len = 6});
 }
@@ -269,7 +280,7 @@ static void random_requests(unsigned long count)
 
 static void test_received_ok(void)
 {
-    struct bujorelm_acknowledged read = bujorelm_read_received_ok(NULL, 0);
+    struct bujorelm_acknowledged read = read_received_ok(NULL, 0);
     uint8_t content[300] = {0};
 
     CHECK(read.refusal == BUJORELM_REFUSAL_NONE && !read.pending && read.timeout == 0);
@@ -278,22 +289,22 @@ static void test_received_ok(void)
 
         one.bytes[0] = (uint8_t)flags;
         guarded_read_only(&one);
-        read = bujorelm_read_received_ok(one.bytes, 1);
+        read = read_received_ok(one.bytes, 1);
         CHECK(read.refusal == BUJORELM_REFUSAL_NONE && read.pending == (flags >= 0x80) && read.timeout == flags % 16);
         content[0] = (uint8_t)flags;
-        read = bujorelm_read_received_ok(content, 2);
+        read = read_received_ok(content, 2);
         CHECK(read.refusal == BUJORELM_REFUSAL_W3 && !read.pending && read.timeout == 0);
         guarded_free(&one);
     }
     for (size_t len = 2; len <= sizeof content; len++) {
-        read = bujorelm_read_received_ok(content, len);
+        read = read_received_ok(content, len);
         CHECK(read.refusal == BUJORELM_REFUSAL_W3 && !read.pending && read.timeout == 0);
     }
 }
 
 static void test_rejected(void)
 {
-    const struct bujorelm_rejection nothing = bujorelm_read_rejected(NULL, 0);
+    const struct bujorelm_rejection nothing = read_rejected(NULL, 0);
     uint8_t bytes[300];
 
     CHECK(nothing.refusal == BUJORELM_REFUSAL_NONE && nothing.code == 0 && same_bytes(nothing.further, at(0, 0)));
@@ -306,7 +317,7 @@ static void test_rejected(void)
 
         memcpy(content.bytes, bytes, len);
         guarded_read_only(&content);
-        read = bujorelm_read_rejected(content.bytes, len);
+        read = read_rejected(content.bytes, len);
         if (len <= 66) {
             CHECK(read.refusal == BUJORELM_REFUSAL_NONE && read.code == (high << 8 | low));
             CHECK(same_bytes(read.further, len > 2 ? at(2, len - 2) : at(len, 0)));
@@ -458,7 +469,7 @@ static void lent_free(struct lent *l)
 
 static struct bujorelm_joined join(const struct lent *l, uint32_t header, const uint8_t *data, size_t len)
 {
-    return bujorelm_join(TOOL, l->pool.bytes, (struct bujorelm_reception *)(void *)l->reception.bytes, header, data, len);
+    return join_frame(TOOL, l->pool.bytes, (struct bujorelm_reception *)(void *)l->reception.bytes, header, data, len);
 }
 
 static bool is_joined(struct bujorelm_joined j, enum bujorelm_joined_kind kind, uint16_t code)

@@ -279,7 +279,7 @@ static bool is_read_with_zero(size_t zero, size_t len)
 
 static void test_no_reply(void)
 {
-    const struct bujorelm_reply nothing = bujorelm_read_reply(NULL, 0);
+    const struct bujorelm_reply nothing = reply_in(NULL, 0);
 
     CHECK(same_reply(&nothing, &no_reply));
     check_reply("20", no_reply);

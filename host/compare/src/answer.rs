@@ -34,7 +34,7 @@ pub enum Answer {
     Replied(usize),
     /// Numbers of the library that mean nothing: an unknown kind, an unknown error, a number that
     /// its kind does not name and that is not 0, a position where there is none, or none where
-    /// there is one.
+    /// there is one, or a byte that is always 0 and is not.
     Malformed(Numbers),
 }
 
@@ -85,9 +85,11 @@ impl From<Numbers> for Answer {
             reply_len,
             frame_count: _,
             position,
+            unused,
         } = numbers;
         // Only a refused space has a position.
         let (number, position) = match (kind, error, position) {
+            _ if unused != 0 => return Self::Malformed(numbers),
             (0, 2..=5, 0..=15) => (error, Some(usize::from(position))),
             (0, 6 | 7 | 11..=14, NO_POSITION) | (1.., 0, NO_POSITION) => (error, None),
             _ => return Self::Malformed(numbers),
@@ -100,7 +102,7 @@ impl From<Numbers> for Answer {
             (4, 0, _, 0, 0, 0) => Self::Rejected(code),
             (5, 0x00, 0, _, 1..=64, 0) => Self::Written {
                 start: changed_at as usize,
-                count: usize::from(changed_len),
+                count: changed_len as usize,
             },
             (6, 0x80, 0, 0, 0, _) => Self::Replied(usize::from(reply_len)),
             (7, 0x00, 0, 0, 0, 0) => Self::UpdateComplete,
@@ -156,6 +158,7 @@ mod tests {
         reply_len: 0,
         frame_count: 0,
         position: NO_POSITION,
+        unused: 0,
     };
 
     const fn of(kind: u32) -> Numbers {
@@ -206,7 +209,7 @@ mod tests {
     #[test]
     fn numbers_that_their_kind_does_not_name_are_found() {
         for (numbers, ..) in good() {
-            let mut spoilt = vec![numbers; 8];
+            let mut spoilt = vec![numbers; 10];
             spoilt[0].kind |= 0x100;
             spoilt[1].flags |= 1;
             spoilt[2].error |= 0x80;
@@ -215,6 +218,8 @@ mod tests {
             spoilt[5].changed_len |= 1;
             spoilt[6].reply_len |= 1;
             spoilt[7].position ^= 0x80;
+            spoilt[8].changed_len |= 0x100;
+            spoilt[9].unused |= 0x80;
             // Where the kind names the number, it may be another one.
             spoilt.retain(|spoilt| match numbers.kind {
                 3 | 4 => spoilt.code == numbers.code,
@@ -222,13 +227,13 @@ mod tests {
                 6 => spoilt.reply_len == numbers.reply_len,
                 _ => true,
             });
-            assert!(spoilt.len() >= 6);
+            assert!(spoilt.len() >= 8);
             for numbers in spoilt {
                 assert_eq!(Answer::from(numbers), Answer::Malformed(numbers));
             }
         }
         let mut written = of(5);
-        for changed_len in [0, 65, 255] {
+        for changed_len in [0, 65, 255, 0x101, 0x4000_0001] {
             written.changed_len = changed_len;
             assert_eq!(Answer::from(written), Answer::Malformed(written));
         }

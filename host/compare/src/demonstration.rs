@@ -1,7 +1,7 @@
 //! Holds the demonstration board of document 01 as a caller of the library has it.
 
-use crate::ffi::{self, Frame, Lock, Numbers, Parsed, Places, Pool};
-use crate::layout::frame_in;
+use crate::ffi::{self, Frame, Numbers, Parsed, Places, Pool, Registers, ResultBytes};
+use crate::layout::{frame_in, numbers_in};
 
 /// The board's alias.
 pub const ALIAS: u16 = 0x22B;
@@ -26,11 +26,12 @@ pub const MEMORY_LEN: usize = 48;
 pub struct Demonstration {
     /// Memory.
     pub memory: [u8; MEMORY_LEN],
-    lock: Lock,
+    registers: Registers,
     pool: Pool,
     places: Places,
     reply: [u8; 72],
     frames: [u8; ffi::SENT_SIZE],
+    result: ResultBytes,
 }
 
 impl Default for Demonstration {
@@ -45,11 +46,12 @@ impl Demonstration {
     pub const fn new() -> Self {
         Self {
             memory: [0; MEMORY_LEN],
-            lock: [0; 6],
+            registers: [0; ffi::REGISTERS_SIZE],
             pool: [0; ffi::POOL_BYTES],
             places: [0; ffi::PLACES_SIZE],
             reply: [0xEE; 72],
             frames: [0xEE; ffi::SENT_SIZE],
+            result: [0xEE; ffi::RESULT_SIZE],
         }
     }
 
@@ -67,7 +69,7 @@ impl Demonstration {
             &TABLE,
             &FLASH,
             &mut self.memory,
-            &mut self.lock,
+            &mut self.registers,
             &mut self.pool,
             &mut self.places,
             tick,
@@ -75,12 +77,22 @@ impl Demonstration {
             data,
             &mut self.reply,
             &mut self.frames,
-        )
+            &mut self.result,
+        );
+        self.numbers()
     }
 
     /// Hands a tick in that comes alone.
     pub fn tick(&mut self, tick: u16) -> Numbers {
-        ffi::handle_tick(&mut self.places, tick)
+        ffi::handle_tick(&mut self.places, tick, &mut self.result);
+        self.numbers()
+    }
+
+    /// What has come of the call. The next one finds other bytes there.
+    fn numbers(&mut self) -> Numbers {
+        let numbers = numbers_in(&self.result);
+        self.result.fill(0xEE);
+        numbers
     }
 
     /// The places.
@@ -108,7 +120,7 @@ impl Demonstration {
         let numbers = self.frame(header, &bytes[..len as usize]);
         for frame in self.sent(usize::from(numbers.frame_count)) {
             let mut line = [0; 29];
-            let end = ffi::print_frame(frame, &mut line, 0);
+            let end = ffi::print_frame(&frame, &mut line, 0);
             out.extend_from_slice(&line[..end]);
         }
     }
@@ -121,10 +133,12 @@ impl Demonstration {
             &TABLE,
             &FLASH,
             &mut self.memory,
-            &mut self.lock,
+            &mut self.registers,
             datagram,
             &mut self.reply,
-        )
+            &mut self.result,
+        );
+        self.numbers()
     }
 
     /// The reply buffer.

@@ -815,25 +815,52 @@ fn no_len(random: &mut Random) -> u8 {
 /// Places that B7 lets pass, of any age at this tick, as only a caller with a long pause has them:
 /// often eight, of these tools and of others, and at times all of them due.
 pub fn old_places(random: &mut Random, tools: &[Tool], tick: u16) -> Places {
-    let mut places = [0; PLACES_SIZE];
-    let mut sources: Vec<u16> = Vec::with_capacity(PLACES);
-    let first = random.below(tools.len());
     let youngest = random.pick(&[0, 0, 0, GREATEST_AGE + 1]);
     let often = random.between(1, 3);
-    for index in 0..PLACES {
-        let mut what = None;
-        if often == 3 || !random.once_in(often + 1) {
-            let mut source = tools[(first + index) % tools.len()].source;
-            while sources.contains(&source) {
-                source = random.below(usize::from(LAST_ALIAS) + 1) as u16;
-            }
-            sources.push(source);
+    let first = random.below(tools.len());
+    let sources = sources_from(random, tools, first);
+    let mut places = [0; PLACES_SIZE];
+    for (index, source) in sources.into_iter().enumerate() {
+        let what = (often == 3 || !random.once_in(often + 1)).then(|| {
             let age = any_age(random, u16::MAX).max(youngest);
-            what = Some(any_held(random, source, tick, age));
-        }
+            any_held(random, source, tick, age)
+        });
         set_place(&mut places, index, any_place(random, what));
     }
     places
+}
+
+/// Eight places that B7 lets pass, all of them held and due at this tick: with datagrams, with
+/// sources that are being swallowed, or with both. Often all ticks are of an earlier count: at the
+/// call the count has gone round, or has begun anew, so that each of them is greater than the
+/// call's.
+pub fn eight_old_places(random: &mut Random, tools: &[Tool], tick: u16) -> Places {
+    let swallowing = random.pick(&[None, None, Some(false), Some(true)]);
+    // Of an age over this one the tick is of the count before.
+    let earlier = random.once_in(2) && tick < u16::MAX;
+    let youngest = (GREATEST_AGE + 1).max(if earlier { tick + 1 } else { 0 });
+    let first = random.below(tools.len());
+    let mut places = [0; PLACES_SIZE];
+    for (index, source) in sources_from(random, tools, first).into_iter().enumerate() {
+        let swallowing = swallowing.unwrap_or_else(|| random.once_in(2));
+        let age = any_age(random, u16::MAX).max(youngest);
+        let what = held_for(random, swallowing, source, tick, age);
+        set_place(&mut places, index, any_place(random, Some(what)));
+    }
+    places
+}
+
+/// Eight sources: those of the tools from one on, and others where there are too few.
+fn sources_from(random: &mut Random, tools: &[Tool], first: usize) -> [u16; PLACES] {
+    let mut sources = [0; PLACES];
+    for index in 0..PLACES {
+        let mut source = tools[(first + index) % tools.len()].source;
+        while sources[..index].contains(&source) {
+            source = random.below(usize::from(LAST_ALIAS) + 1) as u16;
+        }
+        sources[index] = source;
+    }
+    sources
 }
 
 /// A datagram frame to this board from this source, of any kind.
@@ -991,6 +1018,33 @@ mod tests {
             all_due += usize::from(dues == [true; PLACES]);
         }
         assert!(full > all_due && all_due > 100, "{full}, {all_due}");
+    }
+
+    #[test]
+    fn eight_old_places_are_sound_and_all_due() {
+        let mut random = Random::new(8);
+        let (mut datagrams, mut swallowed, mut earlier) = (0, 0, 0);
+        for _ in 0..2_000 {
+            let board = good_board(&mut random);
+            let tools = tools(&mut random, &board);
+            let tick = random.half();
+            let places = eight_old_places(&mut random, &tools, tick);
+            assert_eq!(for_model(&places, &[0; 576], 70_000).check(), Ok(()));
+            let all: Vec<_> = (0..PLACES)
+                .filter_map(|at| held(place(&places, at)))
+                .collect();
+            assert_eq!(all.len(), PLACES);
+            assert!(all.iter().all(|&held| age(held, tick) > 3_000));
+            datagrams += usize::from(all.iter().all(|held| !held.swallowing));
+            swallowed += usize::from(all.iter().all(|held| held.swallowing));
+            earlier += usize::from(all.iter().all(|held| held.tick > tick));
+        }
+        let counts = [datagrams, swallowed, earlier];
+        assert!(counts.iter().all(|&count| count > 100), "{counts:?}");
+        assert!(
+            datagrams + swallowed < 1_900 && earlier < 1_900,
+            "{counts:?}"
+        );
     }
 
     #[test]

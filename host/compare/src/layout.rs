@@ -1,9 +1,11 @@
 //! Holds what the bytes at the library's edge stand for: the spaces of a table, the places of a
-//! reception state, a frame. It is written from the description of the edge and shares nothing
-//! with the library; the model knows no bytes of this kind.
+//! reception state, a frame, a line, what comes of a call. It is written from the description of
+//! the edge and shares nothing with the library; the model knows no bytes of this kind.
 
+use crate::ffi::room::blank;
 use crate::ffi::{
-    Frame, Places, FRAME_SIZE, MOST_SPACES, PLACES, PLACE_BYTES, PLACE_SIZE, SPACE_SIZE,
+    Flag, Frame, Line, LineBytes, Numbers, Parsed, ParsedBytes, Places, ResultBytes, FRAME_SIZE,
+    MOST_SPACES, PLACES, PLACE_BYTES, PLACE_SIZE, SPACE_SIZE,
 };
 use crate::random::Random;
 use model::{Space, Unfinished};
@@ -215,6 +217,57 @@ pub fn unfinished<'p>(places: &'p Places, pool: &'p [u8]) -> impl Iterator<Item 
     })
 }
 
+/// What comes of a call: the kind in four bytes, the code in two, the error and the flags; index
+/// and number of the bytes that are written, in four each; the length of the reply, the number of
+/// frames, the position, and a byte that is always 0.
+#[must_use]
+pub fn numbers_in(bytes: &ResultBytes) -> Numbers {
+    Numbers {
+        kind: word(bytes),
+        code: u16::from_le_bytes([bytes[4], bytes[5]]),
+        error: bytes[6],
+        flags: bytes[7],
+        changed_at: word(&bytes[8..]),
+        changed_len: word(&bytes[12..]),
+        reply_len: bytes[16],
+        frame_count: bytes[17],
+        position: bytes[18],
+        unused: bytes[19],
+    }
+}
+
+/// The line in these bytes: whether it is one, three bytes that are 0, and the frame.
+///
+/// # Panics
+///
+/// Where one of the three is not 0.
+#[must_use]
+pub fn parsed_in(bytes: &ParsedBytes) -> Parsed {
+    blank(&bytes[1..4]);
+    Parsed {
+        good: Flag::in_byte(bytes[0]),
+        frame: Frame {
+            header: word(&bytes[4..]),
+            len: word(&bytes[8..]),
+            bytes: std::array::from_fn(|index| bytes[12 + index]),
+        },
+    }
+}
+
+/// What reading a chunk has come to: whether a line has ended, three bytes that are 0, and the line.
+///
+/// # Panics
+///
+/// Where one of the three is not 0.
+#[must_use]
+pub fn line_in(bytes: &LineBytes) -> Line {
+    blank(&bytes[1..4]);
+    Line {
+        complete: Flag::in_byte(bytes[0]),
+        parsed: parsed_in(&std::array::from_fn(|index| bytes[4 + index])),
+    }
+}
+
 /// The bytes of a frame that the library makes: header and length, each of four bytes with the
 /// least significant first, then the data, then zeros.
 #[must_use]
@@ -344,6 +397,52 @@ mod tests {
         };
         let entries: Vec<Entry> = unfinished(&places, &pool).collect();
         assert_eq!(entries, [begun, swallowed]);
+    }
+
+    #[test]
+    fn the_bytes_of_what_comes_of_a_call_are_these() {
+        let numbers = Numbers {
+            kind: 0x0403_0201,
+            code: 0x0605,
+            error: 7,
+            flags: 8,
+            changed_at: 0x0C0B_0A09,
+            changed_len: 0x100F_0E0D,
+            reply_len: 17,
+            frame_count: 18,
+            position: 19,
+            unused: 20,
+        };
+        assert_eq!(numbers_in(&std::array::from_fn(|at| at as u8 + 1)), numbers);
+    }
+
+    #[test]
+    fn the_bytes_of_a_line_are_these() {
+        let frame = Frame {
+            header: 0x0807_0605,
+            len: 0x0C0B_0A09,
+            bytes: [13, 14, 15, 16, 17, 18, 19, 20],
+        };
+        let mut bytes: ParsedBytes = std::array::from_fn(|at| at as u8 + 1);
+        bytes[1..4].fill(0);
+        let good = Flag::in_byte(1);
+        let parsed = Parsed { good, frame };
+        assert_eq!(parsed_in(&bytes), parsed);
+        let mut line: LineBytes = [0; 24];
+        line[0] = 7;
+        line[4..].copy_from_slice(&bytes);
+        let complete = Flag::in_byte(7);
+        assert_eq!(line_in(&line), Line { complete, parsed });
+    }
+
+    #[test]
+    fn a_byte_between_the_fields_of_a_line_is_seen() {
+        for at in [1, 2, 3, 5, 6, 7] {
+            let mut line: LineBytes = [0; 24];
+            line[at] = 1;
+            let seen = std::panic::catch_unwind(|| line_in(&line));
+            assert!(seen.is_err(), "{at}");
+        }
     }
 
     #[test]

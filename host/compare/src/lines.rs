@@ -2,12 +2,47 @@
 //! sessions on the demonstration board in chunks cut anyhow.
 
 use crate::demonstration::{self, Demonstration};
-use crate::ffi::{self, Carry, Line, CARRY_SIZE};
+use crate::ffi::room::Room;
+use crate::ffi::{Carry, Line, CARRY_SIZE};
 use crate::generate::{line, Board, Tool};
+use crate::layout::line_in;
 use crate::random::Random;
-use crate::setup::hex;
+use crate::setup::{hex, Handler};
 use crate::small::is_parsed;
 use crate::tally::{Case, Tally};
+
+/// What a call of the line splitter has come to.
+#[derive(Debug)]
+struct Step {
+    line: Line,
+    carry: Carry,
+    /// The index up to which the chunk was read; 0 at the end of the input.
+    at: usize,
+}
+
+impl Step {
+    /// Reads a chunk from an index on. What is carried is lent to the call, and changed in place.
+    fn next(handler: &impl Handler, chunk: &[u8], from: usize, mut carry: Carry) -> Self {
+        let mut room = Room::new();
+        let at = handler.next_line(chunk, from, &mut carry, room.lent());
+        Self {
+            line: line_in(room.bytes()),
+            carry,
+            at,
+        }
+    }
+
+    /// Takes the end of the input.
+    fn last(handler: &impl Handler, mut carry: Carry) -> Self {
+        let mut room = Room::new();
+        handler.last_line(&mut carry, room.lent());
+        Self {
+            line: line_in(room.bytes()),
+            carry,
+            at: 0,
+        }
+    }
+}
 
 /// What a call of the line splitter has to come to. It is worked out here from what the edge says,
 /// and a line is the model's to read.
@@ -55,9 +90,9 @@ impl Expected {
 
     /// Whether the library has come to the same. What is carried counts by what it stands for; a
     /// length over 29 only where it was handed in so.
-    fn is(&self, library: &Line, before: &Carry) -> bool {
-        library.complete.get() == self.line.is_some()
-            && is_parsed(library.parsed, self.line.flatten())
+    fn is(&self, library: &Step, before: &Carry) -> bool {
+        library.line.complete.get() == self.line.is_some()
+            && is_parsed(library.line.parsed, self.line.flatten())
             && library.carry.bytes() == self.carried
             && library.carry.spare == Carry::EMPTY.spare
             && usize::from(library.carry.len) <= CARRY_SIZE.max(usize::from(before.len))
@@ -94,7 +129,7 @@ fn line_in_two(random: &mut Random) -> (Vec<u8>, Vec<u8>) {
 }
 
 /// Reads a chunk from an index on, up to the next newline or to its end.
-pub fn next(random: &mut Random, tally: &mut Tally) -> Result<(), String> {
+pub fn next(handler: &impl Handler, random: &mut Random, tally: &mut Tally) -> Result<(), String> {
     let (begun, rest) = line_in_two(random);
     let carry = carry(random, &begun);
     // What was read of the chunk already, the rest of the line, and more.
@@ -114,7 +149,7 @@ pub fn next(random: &mut Random, tally: &mut Tally) -> Result<(), String> {
         3 => from = usize::MAX - random.below(2),
         _ => {}
     }
-    let library = ffi::next_line(&chunk, from, carry);
+    let library = Step::next(handler, &chunk, from, carry);
     let expected = Expected::next(&chunk, from, &carry);
     count_next(tally, &chunk, from, &carry, &expected);
     if expected.is(&library, &carry) {
@@ -147,14 +182,14 @@ fn count_next(tally: &mut Tally, chunk: &[u8], from: usize, carry: &Carry, expec
 }
 
 /// Takes the end of the input.
-pub fn last(random: &mut Random, tally: &mut Tally) -> Result<(), String> {
+pub fn last(handler: &impl Handler, random: &mut Random, tally: &mut Tally) -> Result<(), String> {
     let begun = match random.below(4) {
         0 => Vec::new(),
         1 => line_in_two(random).0,
         _ => line(random),
     };
     let carry = carry(random, &begun);
-    let library = ffi::last_line(carry);
+    let library = Step::last(handler, carry);
     let expected = Expected::last(&carry);
     tally.count(match expected.line {
         None => Case::LastNone,
@@ -217,7 +252,11 @@ fn text(random: &mut Random) -> Vec<u8> {
 
 /// Runs a session on the demonstration board on both sides: the library reads the text in chunks,
 /// the model as a whole.
-pub fn session(random: &mut Random, tally: &mut Tally) -> Result<(), String> {
+pub fn session(
+    handler: &impl Handler,
+    random: &mut Random,
+    tally: &mut Tally,
+) -> Result<(), String> {
     let text = text(random);
     let (mut board, mut out) = (Demonstration::new(), Vec::new());
     let (mut carry, mut rest) = (Carry::EMPTY, &text[..]);
@@ -229,11 +268,11 @@ pub fn session(random: &mut Random, tally: &mut Tally) -> Result<(), String> {
             _ => random.between(0, 400),
         };
         let (chunk, behind) = rest.split_at(size.min(rest.len()));
-        read_chunk(&mut board, chunk, &mut carry, &mut out);
+        carry = read_chunk(handler, &mut board, chunk, carry, &mut out);
         sizes.push(chunk.len());
         rest = behind;
     }
-    let last = ffi::last_line(carry);
+    let last = Step::last(handler, carry).line;
     if last.complete.get() {
         board.line(last.parsed, &mut out);
     }
@@ -253,18 +292,24 @@ pub fn session(random: &mut Random, tally: &mut Tally) -> Result<(), String> {
     ))
 }
 
-/// Has the library read a chunk line by line, and answers each line.
-fn read_chunk(board: &mut Demonstration, chunk: &[u8], carry: &mut Carry, out: &mut Vec<u8>) {
+/// Has the library read a chunk line by line, answers each line, and gives what is carried then.
+fn read_chunk(
+    handler: &impl Handler,
+    board: &mut Demonstration,
+    chunk: &[u8],
+    mut carry: Carry,
+    out: &mut Vec<u8>,
+) -> Carry {
     let mut from = 0;
     loop {
-        let line = ffi::next_line(chunk, from, *carry);
-        *carry = line.carry;
+        let step = Step::next(handler, chunk, from, carry);
+        carry = step.carry;
         // A line that has ended has a newline of its own: else this would not come to an end.
-        if !line.complete.get() || line.at <= from {
-            return;
+        if !step.line.complete.get() || step.at <= from {
+            return carry;
         }
-        board.line(line.parsed, out);
-        from = line.at;
+        board.line(step.line.parsed, out);
+        from = step.at;
     }
 }
 

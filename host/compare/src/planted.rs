@@ -1,11 +1,14 @@
 //! Holds differences that are planted in what the library does with ticks, one at a time. The
 //! comparison finds each of them, and nothing where there is none.
 
+mod results;
 mod swallowing;
 
 use crate::ages;
 use crate::ffi::tool::{Acknowledged, Change, Composed, Joined, Pair, Rejection, Reply};
-use crate::ffi::{Numbers, Places, Pool, PLACES, PLACE_BYTES, PLACE_SIZE};
+use crate::ffi::{
+    Carry, LineBytes, Numbers, Places, Pool, ResultBytes, PLACES, PLACE_BYTES, PLACE_SIZE,
+};
 use crate::generate::{Board, Incoming};
 use crate::guarded::Guarded;
 use crate::layout::{canonical, held, place, set_place, Held};
@@ -107,7 +110,11 @@ const FAULTS: [(Fault, At, &[&str]); 33] = [
     (
         Fault::Tidies,
         At::Tick,
-        &["a place that did not change has other bytes"],
+        // The second where a source is being swallowed: its length is another then.
+        &[
+            "a place that did not change has other bytes",
+            "a place that changed has another tick than the call",
+        ],
     ),
 ];
 const ANSWERS: &str = "the answers differ";
@@ -289,15 +296,15 @@ impl Handler for Planted {
         numbers
     }
 
-    fn handle_tick(&self, places: &mut Places, tick: u16) -> Numbers {
+    fn handle_tick(&self, places: &mut Places, tick: u16, result: &mut ResultBytes) -> Numbers {
         if self.1 == At::Frame {
-            return Library.handle_tick(places, tick);
+            return Library.handle_tick(places, tick, result);
         }
         if self.0 == Fault::DroppedBeforeTests {
             drop_due(places, tick);
         }
         let before = *places;
-        let mut numbers = Library.handle_tick(&mut { before }, tick);
+        let mut numbers = Library.handle_tick(&mut { before }, tick, result);
         if numbers.kind == 0 {
             match self.0 {
                 Fault::DroppedWhereRefused => drop_due(places, tick),
@@ -310,7 +317,7 @@ impl Handler for Planted {
         let mut seen = before;
         each(&mut seen, |held| self.seen(held, tick));
         *places = seen;
-        numbers = Library.handle_tick(places, tick);
+        numbers = Library.handle_tick(places, tick, result);
         put_back(&before, &seen, places);
         self.spoil(&before, places, tick);
         match self.0 {
@@ -338,12 +345,26 @@ impl<H: Handler> Handler for WithTool<'_, H> {
         self.0.handle_frame(board, lent, tick, frame)
     }
 
-    fn handle_tick(&self, places: &mut Places, tick: u16) -> Numbers {
-        self.0.handle_tick(places, tick)
+    fn handle_tick(&self, places: &mut Places, tick: u16, result: &mut ResultBytes) -> Numbers {
+        self.0.handle_tick(places, tick, result)
     }
 
     fn handle_datagram(&self, board: &Board, lent: &mut Lent, datagram: &[u8]) -> Numbers {
         self.0.handle_datagram(board, lent, datagram)
+    }
+
+    fn next_line(
+        &self,
+        chunk: &[u8],
+        from: usize,
+        carry: &mut Carry,
+        line: &mut LineBytes,
+    ) -> usize {
+        self.0.next_line(chunk, from, carry, line)
+    }
+
+    fn last_line(&self, carry: &mut Carry, line: &mut LineBytes) {
+        self.0.last_line(carry, line);
     }
 }
 

@@ -6,40 +6,53 @@ use std::fmt::Write;
 use crate::answer::Answer;
 use crate::faults::{has_long_swallowed, is_damaged, Damage, Faults, Wrong};
 use crate::ffi::{
-    self, Frame, Lock, Places, Pool, FRAME_SIZE, PLACES, PLACE_BYTES, PLACE_SIZE, SENT_SIZE,
+    self, Carry, Frame, LineBytes, Numbers, Places, Pool, Registers, ResultBytes, FRAME_SIZE,
+    PLACES, PLACE_BYTES, PLACE_SIZE, SENT_SIZE,
 };
 use crate::generate::{damage_places, rewrite_places, spoil_board, Board, Incoming};
 use crate::guarded::Guarded;
 use crate::joining;
-use crate::layout::{self, Entry, Held, TableKind};
+use crate::layout::{self, numbers_in, Entry, Held, TableKind};
 use crate::random::Random;
 use crate::tally::{By, Case, Tally};
-use crate::times::{any_due, count_old, is_due, Call, Clock, Pasts};
+use crate::times::{any_due, count_old, count_start, is_due, Call, Clock, Pasts};
 use model::{Reception, Unfinished, MOST_SENT};
 
-/// The functions of the board's half that handle something; the library's, where nothing else is
-/// said. The comparison is made with any that are handed in, so that it can be shown to find a
-/// difference that was planted.
+/// The functions of the board's half that handle something, and the line splitter's; the library's,
+/// where nothing else is said. The comparison is made with any that are handed in, so that it can be
+/// shown to find a difference that was planted.
 pub trait Handler {
-    /// Handles a frame that comes at this tick, for this board.
-    fn handle_frame(
-        &self,
-        board: &Board,
-        lent: &mut Lent,
-        tick: u16,
-        frame: &Incoming,
-    ) -> ffi::Numbers {
+    /// Handles a frame that comes at this tick, for this board. What comes of it is also in the room
+    /// that is lent for that, as it is for a whole datagram.
+    fn handle_frame(&self, board: &Board, lent: &mut Lent, tick: u16, frame: &Incoming) -> Numbers {
         lent.frame(board, tick, frame)
     }
 
     /// Handles a tick that comes alone.
-    fn handle_tick(&self, places: &mut Places, tick: u16) -> ffi::Numbers {
-        ffi::handle_tick(places, tick)
+    fn handle_tick(&self, places: &mut Places, tick: u16, result: &mut ResultBytes) -> Numbers {
+        ffi::handle_tick(places, tick, result);
+        numbers_in(result)
     }
 
     /// Handles a datagram that is handed over whole, for this board.
-    fn handle_datagram(&self, board: &Board, lent: &mut Lent, datagram: &[u8]) -> ffi::Numbers {
+    fn handle_datagram(&self, board: &Board, lent: &mut Lent, datagram: &[u8]) -> Numbers {
         lent.datagram(board, datagram)
+    }
+
+    /// Reads a chunk of lines from an index on, and gives the index up to which it was read.
+    fn next_line(
+        &self,
+        chunk: &[u8],
+        from: usize,
+        carry: &mut Carry,
+        line: &mut LineBytes,
+    ) -> usize {
+        ffi::next_line(chunk, from, carry, line)
+    }
+
+    /// Takes the end of the input.
+    fn last_line(&self, carry: &mut Carry, line: &mut LineBytes) {
+        ffi::last_line(carry, line);
     }
 }
 
@@ -49,11 +62,12 @@ pub struct Lent {
     pub(crate) table: Guarded,
     pub(crate) flash: Guarded,
     pub(crate) memory: Guarded,
-    pub(crate) lock: Guarded,
+    pub(crate) registers: Guarded,
     pub(crate) places: Guarded,
     pub(crate) pool: Guarded,
     pub(crate) reply: Guarded,
     frames: Guarded,
+    pub(crate) result: Guarded,
 }
 
 /// What the model is lent.
@@ -71,37 +85,47 @@ struct Model {
 #[derive(Clone, Debug)]
 struct Before {
     memory: Vec<u8>,
-    lock: Lock,
+    registers: Registers,
     places: Places,
     pool: Pool,
 }
 
 impl Lent {
-    /// What a board with this flash is lent for whole datagrams alone; memory, lock and reply
-    /// buffer are still to be set.
+    /// What a board with this flash is lent for whole datagrams alone; memory, registers, reply
+    /// buffer and room for the result are still to be set.
     pub(crate) fn for_datagrams(board: &Board, flash: &[u8]) -> Self {
-        let [memory, lock, places, pool, reply, frames] = [(); 6].map(|()| Guarded::new(&[]));
+        let [memory, registers, places, pool, reply, frames, result] =
+            [(); 7].map(|()| Guarded::new(&[]));
         Self {
             table: Guarded::new(board.table()),
             flash: Guarded::new(flash),
             memory,
-            lock,
+            registers,
             places,
             pool,
             reply,
             frames,
+            result,
         }
     }
 
+    /// Puts any bytes into the room for the result: what it holds before a call plays no part, and
+    /// a byte that the call does not write is found.
+    pub(crate) fn any_result(&mut self, random: &mut Random) {
+        let mut any: ResultBytes = [0; ffi::RESULT_SIZE];
+        random.fill(&mut any);
+        self.result.set(&any);
+    }
+
     /// Makes the call for a frame.
-    fn frame(&mut self, board: &Board, tick: u16, frame: &Incoming) -> ffi::Numbers {
+    fn frame(&mut self, board: &Board, tick: u16, frame: &Incoming) -> Numbers {
         ffi::handle_frame(
             board.alias,
             board.write_lengths,
             self.table.bytes(),
             self.flash.bytes(),
             self.memory.bytes_mut(),
-            self.lock.array_mut(),
+            self.registers.array_mut(),
             self.pool.array_mut(),
             self.places.array_mut(),
             tick,
@@ -109,21 +133,25 @@ impl Lent {
             &frame.data,
             self.reply.bytes_mut(),
             self.frames.array_mut(),
-        )
+            self.result.array_mut(),
+        );
+        numbers_in(self.result.array())
     }
 
     /// Makes the call for a whole datagram.
-    fn datagram(&mut self, board: &Board, datagram: &[u8]) -> ffi::Numbers {
+    fn datagram(&mut self, board: &Board, datagram: &[u8]) -> Numbers {
         ffi::handle_datagram(
             board.alias,
             board.write_lengths,
             self.table.bytes(),
             self.flash.bytes(),
             self.memory.bytes_mut(),
-            self.lock.array_mut(),
+            self.registers.array_mut(),
             datagram,
             self.reply.bytes_mut(),
-        )
+            self.result.array_mut(),
+        );
+        numbers_in(self.result.array())
     }
 
     /// Whether all guards are as they were.
@@ -132,11 +160,12 @@ impl Lent {
             &self.table,
             &self.flash,
             &self.memory,
-            &self.lock,
+            &self.registers,
             &self.places,
             &self.pool,
             &self.reply,
             &self.frames,
+            &self.result,
         ];
         lent.iter().all(|lent| lent.is_intact())
     }
@@ -200,6 +229,10 @@ pub struct Setup {
     clock: Clock,
     /// `None` where the places are no call's.
     pasts: Option<Pasts>,
+    /// Whether a world begins with these places.
+    starting: bool,
+    /// Of what the room for a result holds before a call.
+    any: Random,
 }
 
 /// A reception state of the library as one of the model at this time: what the places that are held
@@ -248,15 +281,16 @@ impl Setup {
                 table: Guarded::new(board.table()),
                 flash: Guarded::new(&model.flash),
                 memory: Guarded::new(&model.memory),
-                lock: Guarded::new(&lock),
+                registers: Guarded::new(&lock),
                 places: Guarded::new(&places),
                 pool: Guarded::new(&pool),
                 reply: Guarded::new(&[]),
                 frames: Guarded::new(&[]),
+                result: Guarded::new(&[]),
             },
             before: Before {
                 memory: model.memory.clone(),
-                lock,
+                registers: lock,
                 places,
                 pool,
             },
@@ -266,12 +300,23 @@ impl Setup {
             board,
             clock,
             pasts: Some(Pasts::default()),
+            starting: false,
+            any: Random::new(random.number()),
         }
     }
 
-    /// Lets ticks pass before the next call, at most so many.
+    /// Lets ticks pass before the next call, at most so many. Places that are no call's may be as
+    /// old as a tick can tell: none passes before a call is made on them.
     pub fn pass(&mut self, random: &mut Random, most: u64) {
-        self.clock.pass(random, self.library.places.array(), most);
+        if self.pasts.is_some() {
+            self.clock.pass(random, self.library.places.array(), most);
+        }
+    }
+
+    /// Begins a world with places of any age, and with this time.
+    pub fn start_with(&mut self, places: &Places, clock: Clock) {
+        self.set_places(places, clock);
+        self.starting = true;
     }
 
     /// Puts other places, and another time.
@@ -279,7 +324,7 @@ impl Setup {
         *self.library.places.array_mut() = *places;
         self.model.reception = for_model(places, self.library.pool.array(), clock.time());
         self.clock = clock;
-        self.pasts = None;
+        (self.pasts, self.starting) = (None, false);
     }
 
     /// Puts other places and another time, at which what these places are held for is as a call
@@ -307,10 +352,10 @@ impl Setup {
         self.library.memory.bytes()
     }
 
-    /// The library's lock memory.
+    /// The library's registers, which are the lock memory.
     #[must_use]
-    pub fn lock(&self) -> &Lock {
-        self.library.lock.array()
+    pub fn lock(&self) -> &Registers {
+        self.library.registers.array()
     }
 
     /// The library's reply buffer.
@@ -374,9 +419,11 @@ impl Setup {
         }
     }
 
-    /// Notes how things are, and lends both sides a reply buffer with these bytes.
+    /// Notes how things are, and lends both sides a reply buffer with these bytes, and the library
+    /// room for the result.
     fn begin(&mut self, reply: &[u8]) {
-        self.before.lock = *self.library.lock.array();
+        self.library.any_result(&mut self.any);
+        self.before.registers = *self.library.registers.array();
         self.before.places = *self.library.places.array();
         self.before.pool = *self.library.pool.array();
         self.library.reply.set(reply);
@@ -431,7 +478,9 @@ impl Setup {
     pub fn tick(&mut self, handler: &impl Handler, tally: &mut Tally) -> Result<Answer, String> {
         self.before.places = *self.library.places.array();
         let (time, tick) = (self.clock.time(), self.clock.tick());
-        let numbers = handler.handle_tick(self.library.places.array_mut(), tick);
+        self.library.any_result(&mut self.any);
+        let Lent { places, result, .. } = &mut self.library;
+        let numbers = handler.handle_tick(places.array_mut(), tick, result.array_mut());
         let answer = Answer::from(numbers);
         let model_answer = self.model.tick(time);
         let compared = self.compare_tick(answer, model_answer, numbers.frame_count, tally);
@@ -464,7 +513,7 @@ impl Setup {
             library, before, ..
         } = self;
         same(
-            library.places.is_intact(),
+            library.places.is_intact() && library.result.is_intact(),
             "a byte outside what was lent is changed",
         )?;
         let due = any_due(&before.places, self.clock.tick());
@@ -581,7 +630,7 @@ impl Setup {
             library.memory.bytes() == model.memory,
             "the memories differ",
         )?;
-        same(library.lock.bytes() == model.lock, "the locks differ")?;
+        same(library.registers.bytes() == model.lock, "the locks differ")?;
         same(
             done.count == done.model_count,
             "the numbers of frames differ",
@@ -635,7 +684,7 @@ impl Setup {
         )?;
         if !matches!(done.answer, Answer::Replied(8)) {
             same(
-                library.lock.bytes() == before.lock,
+                library.registers.bytes() == before.registers,
                 "the lock is changed without 0x88",
             )?;
         }
@@ -686,7 +735,14 @@ impl Setup {
         };
         match &mut self.pasts {
             Some(pasts) => pasts.count(&call, tally),
-            None => count_old(&call, tally),
+            None => {
+                count_old(&call, tally);
+                if self.starting {
+                    count_start(&call, tally);
+                }
+                // Now they are as a call leaves them.
+                (self.pasts, self.starting) = (Some(Pasts::default()), false);
+            }
         }
         joining::check(&call, tally)
     }
@@ -720,7 +776,7 @@ impl Setup {
                 done.by,
                 done.answer,
                 done.finished,
-                self.before.lock,
+                self.before.registers,
                 self.library.reply.bytes(),
             ),
             "document 01 has no such answer",
@@ -747,7 +803,7 @@ impl Setup {
         }
         line("flash", &hex(&model.flash));
         line("memory before", &hex(&before.memory));
-        line("lock before", &hex(&before.lock));
+        line("lock before", &hex(&before.registers));
         line("reply before", &hex(done.reply));
         for index in 0..PLACES {
             line(
@@ -773,7 +829,7 @@ impl Setup {
         line("model:   reply", &hex(&model.reply));
         line("library: memory", &hex(library.memory.bytes()));
         line("model:   memory", &hex(&model.memory));
-        line("library: lock", &hex(library.lock.bytes()));
+        line("library: lock", &hex(library.registers.bytes()));
         line("model:   lock", &hex(&model.lock));
         self.describe_unfinished(report);
     }

@@ -1,9 +1,10 @@
 //! Holds the comparison of the smaller calls: cutting, the transport replies, and single lines.
 
+use crate::ffi::room::Room;
 use crate::ffi::{self, Frame, Parsed, FRAME_SIZE, SENT_SIZE};
 use crate::generate::{line, wide_alias, LAST_ALIAS};
 use crate::guarded::Guarded;
-use crate::layout::{frame_bytes, frame_in};
+use crate::layout::{frame_bytes, frame_in, parsed_in};
 use crate::random::Random;
 use crate::setup::hex;
 use crate::tally::{Case, Tally};
@@ -112,7 +113,9 @@ pub fn is_parsed(library: Parsed, model: Option<model::Frame>) -> bool {
 /// Reads a line on both sides.
 pub fn parse(random: &mut Random, tally: &mut Tally) -> Result<(), String> {
     let line = line(random);
-    let library = ffi::parse_line(&line);
+    let mut room = Room::new();
+    ffi::parse_line(&line, room.lent());
+    let library = parsed_in(room.bytes());
     let model = model::parse_line(&line);
     tally.count(if model.is_some() {
         Case::LineGood
@@ -149,7 +152,7 @@ pub fn print(random: &mut Random, tally: &mut Tally) -> Result<(), String> {
         _ => random.between(0, length / 2),
     };
     let mut out = Guarded::new(&before);
-    let end = ffi::print_frame(frame, out.bytes_mut(), at);
+    let end = ffi::print_frame(&frame, out.bytes_mut(), at);
 
     let mut expected = before.clone();
     let mut expected_end = at;

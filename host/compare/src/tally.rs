@@ -336,6 +336,28 @@ cases! {
     Old65000 = "any age, over 64,999", Small;
     /// One was as old as a tick can tell.
     OldMost = "any age, 65,535", Small;
+    /// A world that begins with eight places that are all too old, at a frame that is not ignored.
+    StartEightByFrame = "start, eight too old, at a frame", Small;
+    /// The same at a frame that is ignored.
+    StartEightByIgnored = "start, eight too old, at an ignored", Small;
+    /// The same at a lone tick.
+    StartEightByTick = "start, eight too old, lone tick", Small;
+    /// The same with a datagram in each of them.
+    StartEightDatagrams = "start, eight datagrams too old", Small;
+    /// The same with eight sources that are being swallowed.
+    StartEightSwallowed = "start, eight swallowed, too old", Small;
+    /// The same with some of either.
+    StartEightMixed = "start, eight of both sorts, too old", Small;
+    /// The same with ticks that are all of an earlier count.
+    StartEightEarlier = "start, eight too old, earlier count", Small;
+    /// The same with a First of a ninth source, which has room.
+    StartNinth = "start, eight too old, First of a ninth", Small;
+    /// A world that begins with a place whose tick is of an earlier count, and that stays.
+    StartEarlierKept = "start, earlier count, kept", Small;
+    /// The same with one that is dropped.
+    StartEarlierDropped = "start, earlier count, dropped", Small;
+    /// The same with one that stays, whose source is being swallowed.
+    StartEarlierSwallowed = "start, earlier count, swallowed kept", Small;
     /// A lone tick.
     Tick = "lone tick", Small;
     /// A lone tick that is refused.

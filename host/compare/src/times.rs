@@ -74,6 +74,12 @@ impl Clock {
         }
     }
 
+    /// The same clock a round of the count later: of all earlier ticks there is one before it.
+    #[must_use]
+    pub const fn a_round_later(&self) -> Self {
+        Self::paced(self.time + ROUND, self.pace)
+    }
+
     /// The full time.
     #[must_use]
     pub const fn time(&self) -> u64 {
@@ -182,6 +188,53 @@ pub fn count_old(call: &Call, tally: &mut Tally) {
         (due == PLACES, Case::OldEight),
         (ages.iter().any(|&age| age >= 65_000), Case::Old65000),
         (ages.contains(&u16::MAX), Case::OldMost),
+    ] {
+        tally.count_if(is, case);
+    }
+}
+
+/// Counts what is to be seen of the first call of a world that begins with such places.
+pub fn count_start(call: &Call, tally: &mut Tally) {
+    let tick = call.clock.tick();
+    let all: Vec<Held> = (0..PLACES)
+        .filter_map(|index| held(place(call.before, index)))
+        .collect();
+    let is_earlier = |held: &Held| held.tick > tick;
+    let eight = all.len() == PLACES && all.iter().all(|&held| is_due(held, tick));
+    let swallowed = all.iter().filter(|held| held.swallowing).count();
+    let is_first = call.frame.is_some_and(|frame| frame.header >> 24 == 0x1B);
+    let ninth = is_first
+        && call.answer == Answer::Nothing
+        && !all.iter().any(|held| call.is_of(held.source));
+    let at = match (call.frame, call.answer) {
+        (None, _) => Case::StartEightByTick,
+        (Some(_), Answer::Ignored) => Case::StartEightByIgnored,
+        (Some(_), _) => Case::StartEightByFrame,
+    };
+    let sort = match swallowed {
+        0 => Case::StartEightDatagrams,
+        PLACES => Case::StartEightSwallowed,
+        _ => Case::StartEightMixed,
+    };
+    let earlier: Vec<Held> = all.iter().copied().filter(is_earlier).collect();
+    let kept = |held: &&Held| !is_due(**held, tick);
+    for (is, case) in [
+        (eight, at),
+        (eight, sort),
+        (eight && earlier.len() == PLACES, Case::StartEightEarlier),
+        (eight && ninth, Case::StartNinth),
+        (
+            earlier.iter().any(|held| kept(&held)),
+            Case::StartEarlierKept,
+        ),
+        (
+            earlier.iter().any(|held| !kept(&held)),
+            Case::StartEarlierDropped,
+        ),
+        (
+            earlier.iter().filter(kept).any(|held| held.swallowing),
+            Case::StartEarlierSwallowed,
+        ),
     ] {
         tally.count_if(is, case);
     }
@@ -612,6 +665,62 @@ mod tests {
         let ignored = Answer::Ignored;
         let seen = at(20_000, middle.map(|header| header ^ 0x1000), ignored, &[]);
         assert_eq!(seen, [Case::DroppedByIgnored]);
+    }
+
+    /// What is counted of a world that begins with these places, at this time and with this frame.
+    fn start_with(what: &[(u8, u16)], time: u64, header: Option<u32>, answer: Answer) -> Vec<Case> {
+        let before = places(what);
+        let frame = header.map(|header| Incoming {
+            header,
+            data: vec![0],
+        });
+        let call = Call {
+            clock: Clock::at(time),
+            before: &before,
+            after: &before,
+            answer,
+            frame: frame.as_ref(),
+        };
+        let mut tally = Tally::default();
+        count_start(&call, &mut tally);
+        Case::of_times()
+            .filter(|&case| tally.counted(case) != 0)
+            .collect()
+    }
+
+    #[test]
+    fn what_is_to_be_seen_of_the_start_of_a_world() {
+        let joined = Answer::Nothing;
+        assert_eq!(start_with(&[], 70_000, None, joined), []);
+        // 4,464 is the tick: 1,464 is 3,000 back, and 1,463 too old.
+        let mut what = [(1, 1_463); PLACES];
+        let seen = start_with(&what, 70_000, None, joined);
+        assert_eq!(seen, [Case::StartEightByTick, Case::StartEightDatagrams]);
+        let ninth = Some(0x1B22_B009);
+        let seen = start_with(&what, 70_000, ninth, joined);
+        let by_frame = [Case::StartEightByFrame, Case::StartEightDatagrams];
+        assert_eq!(seen[..2], by_frame);
+        assert_eq!(seen[2..], [Case::StartNinth]);
+        let own = start_with(&what, 70_000, Some(0x1B22_B008), joined);
+        assert_eq!(own, by_frame);
+        what[3] = (1, 1_464);
+        assert_eq!(start_with(&what, 70_000, None, joined), []);
+        what[3] = (SWALLOWED, 1_463);
+        let seen = start_with(&what, 70_000, Some(0x1C30_0001), Answer::Ignored);
+        assert_eq!(seen, [Case::StartEightByIgnored, Case::StartEightMixed]);
+        let seen = start_with(&[(SWALLOWED, 60_000); PLACES], 70_000, None, joined);
+        let expected = [
+            Case::StartEightByTick,
+            Case::StartEightSwallowed,
+            Case::StartEightEarlier,
+            Case::StartEarlierDropped,
+        ];
+        assert_eq!(seen, expected);
+        let seen = start_with(&[(1, 65_535)], 65_536, None, joined);
+        assert_eq!(seen, [Case::StartEarlierKept]);
+        let seen = start_with(&[(SWALLOWED, 65_535)], 65_536 + 2_999, None, joined);
+        let expected = [Case::StartEarlierKept, Case::StartEarlierSwallowed];
+        assert_eq!(seen, expected);
     }
 
     #[test]

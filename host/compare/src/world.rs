@@ -3,7 +3,9 @@
 
 use crate::answer::Answer;
 use crate::ffi::{PLACES_SIZE, SENT_SIZE};
-use crate::generate::{any_frame, datagram, good_board, old_places, sound_places, tools, Tool};
+use crate::generate::{
+    any_frame, datagram, eight_old_places, good_board, old_places, sound_places, tools, Tool,
+};
 use crate::lines;
 use crate::lost;
 use crate::random::Random;
@@ -29,20 +31,32 @@ pub struct World {
 }
 
 impl World {
-    /// A new world, to be left after some hundreds of calls. What is unfinished at its start is as
-    /// a call at that time leaves it.
+    /// A new world, to be left after some hundreds of calls. At its start nothing is held, or places
+    /// as a call at that time leaves them; or else places of any age, at times eight that are all
+    /// too old, and with ticks of an earlier count.
     pub fn new(random: &mut Random) -> Self {
         let board = good_board(random);
         let tools = tools(random, &board);
         let clock = Clock::new(random);
-        let places = if random.once_in(2) {
+        let start = random.below(8);
+        let places = if start < 4 {
             let oldest = clock.time().min(u64::from(GREATEST_AGE)) as u16;
             sound_places(random, &tools, clock.tick(), oldest)
         } else {
             [0; PLACES_SIZE]
         };
+        let mut setup = Setup::new(random, board, places, clock);
+        if start >= 6 {
+            let clock = clock.a_round_later();
+            let places = if start == 6 {
+                old_places(random, &tools, clock.tick())
+            } else {
+                eight_old_places(random, &tools, clock.tick())
+            };
+            setup.start_with(&places, clock);
+        }
         Self {
-            setup: Setup::new(random, board, places, clock),
+            setup,
             tools,
             listener: Listener::new(random),
             calls_left: random.between(50, 600),
@@ -88,11 +102,11 @@ impl World {
             88..=90 => small::transport(random, tally),
             91..=93 => small::parse(random, tally),
             94 | 95 => small::print(random, tally),
-            96 | 97 => lines::next(random, tally),
-            98 => lines::last(random, tally),
+            96 | 97 => lines::next(archive, random, tally),
+            98 => lines::last(archive, random, tally),
             // One of these takes as long as some ten of the others.
-            _ if random.once_in(4) => lines::session(random, tally),
-            _ => lines::next(random, tally),
+            _ if random.once_in(4) => lines::session(archive, random, tally),
+            _ => lines::next(archive, random, tally),
         }
     }
 

@@ -15,7 +15,7 @@ mod planted;
 use std::fmt::Write as _;
 
 use crate::answer::Answer;
-use crate::ffi::{Lock, Numbers};
+use crate::ffi::{Numbers, Registers};
 use crate::generate::{Board, LARGEST_STORE};
 use crate::random::Random;
 use crate::setup::{hex, same, Handler, Lent};
@@ -85,7 +85,7 @@ fn applied(effect: &Effect, memory: &[u8]) -> Vec<u8> {
 #[derive(Clone, Debug, PartialEq, Eq)]
 struct Run {
     memory: Vec<u8>,
-    lock: Lock,
+    registers: Registers,
     answers: Vec<Numbers>,
 }
 
@@ -118,18 +118,20 @@ pub struct Runner {
     memory: Vec<u8>,
     /// The content of memory that the last list began with.
     before: Vec<u8>,
-    lock: Lock,
+    registers: Registers,
     reply: [u8; REPLY],
     lent: Lent,
+    /// Of what the room for a result holds before a call.
+    any: Random,
 }
 
 impl Runner {
     /// A board with random contents.
     pub fn new(random: &mut Random, board: Board) -> Self {
         let flash = random.bytes(board.flash_len);
-        let mut lock = [0; 6];
+        let mut registers = [0; 6];
         if random.once_in(2) {
-            random.fill(&mut lock);
+            random.fill(&mut registers);
         }
         let mut reply = [0; REPLY];
         random.fill(&mut reply);
@@ -139,8 +141,9 @@ impl Runner {
             lent: Lent::for_datagrams(&board, &flash),
             board,
             flash,
-            lock,
+            registers,
             reply,
+            any: Random::new(random.number()),
         }
     }
 
@@ -154,7 +157,7 @@ impl Runner {
         self.before.clear();
         self.before.extend_from_slice(memory);
         self.lent.memory.set(memory);
-        self.lent.lock.set(&self.lock);
+        self.lent.registers.set(&self.registers);
         self.lent.reply.set(&self.reply);
         let mut answers = Vec::new();
         for judged in list {
@@ -169,7 +172,7 @@ impl Runner {
         same(lent.is_intact(), "a byte outside what was lent is changed")?;
         Ok(Run {
             memory: lent.memory.bytes().to_vec(),
-            lock: *lent.lock.array(),
+            registers: *lent.registers.array(),
             answers,
         })
     }
@@ -177,7 +180,8 @@ impl Runner {
     /// Hands a datagram to the library. A write that it accepts changes nothing but memory.
     fn handle(&mut self, handler: &impl Handler, datagram: &[u8]) -> Result<Numbers, &'static str> {
         let lent = &mut self.lent;
-        let lock: Lock = *lent.lock.array();
+        lent.any_result(&mut self.any);
+        let registers: Registers = *lent.registers.array();
         let numbers = handler.handle_datagram(&self.board, lent, datagram);
         same(numbers.frame_count == 0, "there are frames to be sent")?;
         if matches!(Answer::from(numbers), Answer::Written { .. }) {
@@ -186,7 +190,7 @@ impl Runner {
                 "an accepted write has changed the reply buffer",
             )?;
             same(
-                lent.lock.bytes() == lock,
+                lent.registers.bytes() == registers,
                 "an accepted write has changed the lock",
             )?;
         } else {
@@ -214,9 +218,9 @@ impl Runner {
         }
         line("random memory", &hex(&self.memory));
         line("last: memory", &hex(&self.before));
-        line("last: lock", &hex(&self.lock));
+        line("last: lock", &hex(&self.registers));
         line("library: memory", &hex(self.lent.memory.bytes()));
-        line("library: lock", &hex(self.lent.lock.bytes()));
+        line("library: lock", &hex(self.lent.registers.bytes()));
         line("library: reply", &hex(self.lent.reply.bytes()));
         report
     }

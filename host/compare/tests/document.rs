@@ -5,6 +5,7 @@
 use compare::demonstration::{Demonstration, ALIAS, FLASH, MEMORY_LEN, TABLE, WRITE_LENGTHS};
 use compare::ffi::{self, Carry, NO_POSITION, PLACES, PLACES_SIZE, PLACE_SIZE, SPACE_SIZE};
 use compare::layout::{held, place, set_place};
+use compare::layout::{line_in, numbers_in, parsed_in};
 
 /// The reply to a whole datagram, or the code of its rejection.
 fn answer(board: &mut Demonstration, datagram: &[u8]) -> Vec<u8> {
@@ -43,7 +44,9 @@ nothing
     let mut board = Demonstration::new();
     let mut out = Vec::new();
     for line in input.lines() {
-        board.line(ffi::parse_line(line.as_bytes()), &mut out);
+        let mut parsed = [0xEE; ffi::PARSED_SIZE];
+        ffi::parse_line(line.as_bytes(), &mut parsed);
+        board.line(parsed_in(&parsed), &mut out);
     }
     assert_eq!(String::from_utf8_lossy(&out), expected);
     assert_eq!(
@@ -64,11 +67,12 @@ nothing
 fn in_chunks(text: &str, size: usize) -> String {
     let mut board = Demonstration::new();
     let (mut out, mut carry) = (Vec::new(), Carry::EMPTY);
+    let mut room = [0xEE; ffi::LINE_SIZE];
     for chunk in text.as_bytes().chunks(size) {
         let mut from = 0;
         loop {
-            let line = ffi::next_line(chunk, from, carry);
-            (carry, from) = (line.carry, line.at);
+            from = ffi::next_line(chunk, from, &mut carry, &mut room);
+            let line = line_in(&room);
             if !line.complete.get() {
                 break;
             }
@@ -76,7 +80,8 @@ fn in_chunks(text: &str, size: usize) -> String {
         }
         assert_eq!(from, chunk.len());
     }
-    let last = ffi::last_line(carry);
+    ffi::last_line(&mut carry, &mut room);
+    let last = line_in(&room);
     if last.complete.get() {
         board.line(last.parsed, &mut out);
     }
@@ -120,7 +125,7 @@ fn whole_datagrams() {
 #[test]
 fn a_write_says_what_it_has_written() {
     // The datagram, the index into memory and the number of bytes, and what is there then.
-    let cases: [(&str, u32, u8, &str); 4] = [
+    let cases: [(&str, u32, u32, &str); 4] = [
         ("200100000002ABCD", 2, 2, "ABCD"),
         ("20020000002F11", 47, 1, "11"),
         ("20000000010E101122", 46, 2, "1122"),
@@ -136,7 +141,7 @@ fn a_write_says_what_it_has_written() {
             (at, len),
             "{datagram}"
         );
-        let range = at as usize..at as usize + usize::from(len);
+        let range = at as usize..(at + len) as usize;
         assert_eq!(board.memory[range.clone()], bytes(expected), "{datagram}");
         board.memory[range].fill(0);
         assert_eq!(board.memory, [0; 48], "{datagram}");
@@ -166,27 +171,29 @@ fn refused(
     reply_len: usize,
 ) -> (u8, u8) {
     let flash = vec![0; flash_len];
-    let (mut memory, mut reply, mut lock) = (vec![0; memory_len], vec![0; reply_len], [0; 6]);
+    let (mut memory, mut reply, mut registers) = (vec![0; memory_len], vec![0; reply_len], [0; 6]);
+    let mut results = [[0xEE; ffi::RESULT_SIZE], [0x11; ffi::RESULT_SIZE]];
     let (mut pool, mut places) = ([0; ffi::POOL_BYTES], [0; ffi::PLACES_SIZE]);
     let mut room = [0; ffi::SENT_SIZE];
     let (header, done) = (0x1A22_B123, [0x20, 0xA8]);
-    let whole = ffi::handle_datagram(
+    ffi::handle_datagram(
         alias,
         WRITE_LENGTHS,
         table,
         &flash,
         &mut memory,
-        &mut lock,
+        &mut registers,
         &done,
         &mut reply,
+        &mut results[0],
     );
-    let framed = ffi::handle_frame(
+    ffi::handle_frame(
         alias,
         WRITE_LENGTHS,
         table,
         &flash,
         &mut memory,
-        &mut lock,
+        &mut registers,
         &mut pool,
         &mut places,
         0,
@@ -194,8 +201,10 @@ fn refused(
         &done,
         &mut reply,
         &mut room,
+        &mut results[1],
     );
-    assert_eq!(whole, framed);
+    assert_eq!(results[0], results[1]);
+    let whole = numbers_in(&results[0]);
     assert_eq!((whole.kind, whole.frame_count), (0, 0));
     (whole.error, whole.position)
 }

@@ -1,25 +1,22 @@
 -- `bujorelm_handle_frame` meets its contract.
 -- Assumes nothing.
 use Prim.Native.Nat.{_≤_}
-use mathlib.Core.Path.{_≡_, ap, _∙_}
-use Rattle.capi_result.specs.Result.{frameNumbers}
-use Rattle.capi_result.proofs.ResultLaws.{frame-exact, frame-range}
+use Rattle.capi_result.proofs.ResultLaws.{frame-told, frame-range}
 use borrow.Author.Needs.{needs}
 use Rattle.bujorelm.proofs.bujorelm_handle_frame.Statement.{statement}
 use Rattle.bujorelm.proofs.bujorelm_handle_frame.Tie as tie
 
 returns : tie.Need-returns
 returns c =
-    let d = c .before .before .before .before .before .answer-frame in
+    let d = c .before .before .before .before .before .before .answer-frame in
     let e = d .ensures .0 .ends in
     let sent = d .ensures .0 .sent in
     let few : d .result .count ≤ 10 = rw (sent .count) (sent .few) in
     record {
-      numbers = frame-exact (d .result .answer) (d .result .count) (c .of-frame .ensures) (e .small) few ∙ rw (e .answers .answer, sent .count);
+      numbers = frame-told (e .answers .answer) (sent .count) (c .of-frame .ensures) (e .small) few;
       replied = e .answers .reply;
-      stored = e .answers .memory;
-      changed = frame-range (d .result .answer) (d .result .count) (c .of-frame .ensures) (e .small) few _ _ (e .changes);
-      held = e .answers .lock;
+      left = e .answers .contents;
+      changed = frame-range (e .answers .answer) (sent .count) _ _ (e .changes);
       keeps = e .keeps;
       sent = sent .bytes;
     }

@@ -6,7 +6,7 @@ use Rattle.bujorelm_tool.proofs.bujorelm_compose_information.Statement.
 use Rattle.bujorelm_tool.proofs.bujorelm_compose_information.Tie as tie
 
 returns : tie.Need-returns
-returns c = composes (c .before .before .before .write-information .ensures) (c .of-written .ensures)
+returns c = composes (c .before .before .before .before .write-information .ensures) (c .written-into .ensures)
 
 pub bujorelm-compose-information-spec : {M : Type 1} → statement M
 bujorelm-compose-information-spec =

@@ -6,7 +6,7 @@ use Rattle.bujorelm_tool.proofs.bujorelm_compose_lock.Statement.{statem
 use Rattle.bujorelm_tool.proofs.bujorelm_compose_lock.Tie as tie
 
 returns : tie.Need-returns
-returns c = composes (c .before .before .before .write-lock .ensures) (c .of-written .ensures)
+returns c = composes (c .before .before .before .before .write-lock .ensures) (c .written-into .ensures)
 
 pub bujorelm-compose-lock-spec : {M : Type 1} → statement M
 bujorelm-compose-lock-spec =

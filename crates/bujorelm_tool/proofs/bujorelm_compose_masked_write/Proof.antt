@@ -6,7 +6,7 @@ use Rattle.bujorelm_tool.proofs.bujorelm_compose_masked_write.Statement
 use Rattle.bujorelm_tool.proofs.bujorelm_compose_masked_write.Tie as tie
 
 returns : tie.Need-returns
-returns c = composes (c .before .before .before .write-masked .ensures) (c .of-written .ensures)
+returns c = composes (c .before .before .before .before .write-masked .ensures) (c .written-into .ensures)
 
 pub bujorelm-compose-masked-write-spec : {M : Type 1} → statement M
 bujorelm-compose-masked-write-spec =

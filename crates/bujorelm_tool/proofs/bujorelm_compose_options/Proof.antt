@@ -6,7 +6,7 @@ use Rattle.bujorelm_tool.proofs.bujorelm_compose_options.Statement.{sta
 use Rattle.bujorelm_tool.proofs.bujorelm_compose_options.Tie as tie
 
 returns : tie.Need-returns
-returns c = composes (c .before .before .before .write-options .ensures) (c .of-written .ensures)
+returns c = composes (c .before .before .before .before .write-options .ensures) (c .written-into .ensures)
 
 pub bujorelm-compose-options-spec : {M : Type 1} → statement M
 bujorelm-compose-options-spec =

@@ -10,11 +10,11 @@ use Rattle.bujorelm_tool.proofs.bujorelm_compose_read.Tie as tie
 
 returns : tie.Need-returns
 returns c =
-    let a = c .before .before .before .args in
-    (composes (writes-w1 (count-over (a .space) (a .address) (a .count) (omega (arith, c .before .if1 .taken)))) (c .of-written .ensures), every-request)
+    let a = c .before .before .before .before .args in
+    (composes (writes-w1 (count-over (a .space) (a .address) (a .count) (omega (arith, c .before .before .if1 .taken)))) (c .written-into .ensures), every-request)
 
 returns-2 : tie.Need-returns-2
-returns-2 c = (composes (c .before .before .before .write-read .ensures) (c .of-written2 .ensures), every-request)
+returns-2 c = (composes (c .before .before .before .before .write-read .ensures) (c .written-into2 .ensures), every-request)
 
 pub bujorelm-compose-read-spec : {M : Type 1} → statement M
 bujorelm-compose-read-spec =

@@ -6,7 +6,7 @@ use Rattle.bujorelm_tool.proofs.bujorelm_compose_update_complete.Statem
 use Rattle.bujorelm_tool.proofs.bujorelm_compose_update_complete.Tie as tie
 
 returns : tie.Need-returns
-returns c = composes (c .before .before .before .write-update-complete .ensures) (c .of-written .ensures)
+returns c = composes (c .before .before .before .before .write-update-complete .ensures) (c .written-into .ensures)
 
 pub bujorelm-compose-update-complete-spec : {M : Type 1} → statement M
 bujorelm-compose-update-complete-spec =

@@ -6,7 +6,7 @@ use Rattle.bujorelm_tool.proofs.bujorelm_compose_write.Statement.{state
 use Rattle.bujorelm_tool.proofs.bujorelm_compose_write.Tie as tie
 
 returns : tie.Need-returns
-returns c = composes (c .before .before .before .write-write .ensures) (c .of-written .ensures)
+returns c = composes (c .before .before .before .before .write-write .ensures) (c .written-into .ensures)
 
 pub bujorelm-compose-write-spec : {M : Type 1} → statement M
 bujorelm-compose-write-spec =

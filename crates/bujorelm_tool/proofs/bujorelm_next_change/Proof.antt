@@ -6,7 +6,9 @@ use Rattle.bujorelm_tool.proofs.bujorelm_next_change.Tie as tie
 
 returns : tie.Need-returns
 returns c =
-    (rw (c .numbers-of .ensures .1) (c .before .before .before .next-change .ensures .0), (rw (c .numbers-of .ensures .1) (c .numbers-of .ensures .0), c .before .before .before .next-change .ensures .1))
+    let p = c .put-change .ensures in
+    let n = c .before .before .before .before .next-change .ensures in
+    (rw (p .1) (n .0), (rw (p .1) (p .0), n .1))
 
 pub bujorelm-next-change-spec : {M : Type 1} → statement M
 bujorelm-next-change-spec = tie.close (tie.spec (λ c κs. search needs) (λ c κs. search needs) (λ c. search needs) returns)

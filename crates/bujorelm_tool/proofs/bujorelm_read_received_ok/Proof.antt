@@ -5,7 +5,7 @@ use Rattle.bujorelm_tool.proofs.bujorelm_read_received_ok.Statement.{st
 use Rattle.bujorelm_tool.proofs.bujorelm_read_received_ok.Tie as tie
 
 returns : tie.Need-returns
-returns c = rw (← c .before .read-received-ok .ensures) (c .of-received .ensures)
+returns c = rw (← c .before .before .read-received-ok .ensures) (c .received-into .ensures)
 
 pub bujorelm-read-received-ok-spec : {M : Type 1} → statement M
 bujorelm-read-received-ok-spec =

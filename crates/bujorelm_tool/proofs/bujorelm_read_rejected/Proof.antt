@@ -5,7 +5,7 @@ use Rattle.bujorelm_tool.proofs.bujorelm_read_rejected.Statement.{state
 use Rattle.bujorelm_tool.proofs.bujorelm_read_rejected.Tie as tie
 
 returns : tie.Need-returns
-returns c = rw (← c .before .read-rejected .ensures) (c .of-rejection .ensures)
+returns c = rw (← c .before .before .read-rejected .ensures) (c .rejection-into .ensures)
 
 pub bujorelm-read-rejected-spec : {M : Type 1} → statement M
 bujorelm-read-rejected-spec =

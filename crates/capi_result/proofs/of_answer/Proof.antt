@@ -5,16 +5,16 @@ use Rattle.capi_result.proofs.of_answer.Statement.{statement}
 use Rattle.capi_result.proofs.of_answer.Tie as tie
 
 returns : tie.Need-returns
-returns c = rw (c .before .before .answer .given .1) (c .of-kind .ensures)
+returns c = rw (c .before .before .before .answer .given .1) (c .of-kind .ensures)
 
 returns-2 : tie.Need-returns-2
-returns-2 c = rw (c .before .before .answer2 .given .1) (c .of-write .ensures)
+returns-2 c = rw (c .before .before .before .answer2 .given .1) (c .of-write .ensures)
 
 returns-3 : tie.Need-returns-3
-returns-3 c = rw (c .before .enum-told .given .1) (c .of-kind2 .ensures)
+returns-3 c = rw (c .before .before .enum-told .given .1) (c .of-kind2 .ensures)
 
 returns-4 : tie.Need-returns-4
-returns-4 c = rw (c .before .before .answer3 .given .1) (c .of-reply .ensures)
+returns-4 c = rw (c .before .before .before .answer3 .given .1) (c .of-reply .ensures)
 
 pub of-answer-spec : {M : Type 1} → statement M
 of-answer-spec =

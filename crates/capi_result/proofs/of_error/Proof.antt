@@ -6,7 +6,7 @@ use Rattle.capi_result.proofs.of_error.Tie as tie
 
 returns : tie.Need-returns
 returns c =
-    rw (← c .before .number-of .ensures, ← c .before .before .before .position-of .ensures, ← c .before .before .position-number .ensures)
+    rw (← c .before .before .number-of .ensures, ← c .before .before .before .before .position-of .ensures, ← c .before .before .before .position-number .ensures)
     (c .of-refusal .ensures)
 
 pub of-error-spec : {M : Type 1} → statement M

@@ -3,7 +3,7 @@
 use mathlib.Core.Path.{sym, ap, _∙_}
 use mathlib.Core.Bool.{Bool}
 use Rattle.node_spec.specs.TickCall.{tickAnswer}
-use Rattle.capi_words.specs.Words.{inBytes}
+use Rattle.capi_numbers.specs.Numbers.{inBytes, resultBytes}
 use Rattle.capi_result.specs.Result.{frameNumbers}
 use borrow.Author.Needs.{needs}
 use Rattle.capi_result.proofs.of_tick.Statement.{statement}
@@ -11,11 +11,11 @@ use Rattle.capi_result.proofs.of_tick.Tie as tie
 
 returns : tie.Need-returns
 returns c =
-    c .in-fields .ensures ∙ c .before .of-kind .ensures ∙ sym (ap (λ (b : Bool). inBytes (frameNumbers (tickAnswer b) 0)) (c .before .before .if1 .taken))
+    c .of-kind .ensures ∙ sym (ap (λ (b : Bool). resultBytes (inBytes (frameNumbers (tickAnswer b) 0))) (c .before .before .if1 .taken))
 
 returns-2 : tie.Need-returns-2
 returns-2 c =
-    c .in-fields2 .ensures ∙ c .before .of-refusal .ensures ∙ sym (ap (λ (b : Bool). inBytes (frameNumbers (tickAnswer b) 0)) (c .before .before .if1 .left))
+    c .of-refusal .ensures ∙ sym (ap (λ (b : Bool). resultBytes (inBytes (frameNumbers (tickAnswer b) 0))) (c .before .before .if1 .left))
 
 pub of-tick-spec : {M : Type 1} → statement M
-of-tick-spec = tie.close (tie.spec (λ c κs. search needs) (λ c κs. search needs) returns (λ c κs. search needs) (λ c κs. search needs) returns-2)
+of-tick-spec = tie.close (tie.spec (λ c κs. search needs) returns (λ c κs. search needs) returns-2)

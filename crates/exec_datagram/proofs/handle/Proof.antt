@@ -3,8 +3,9 @@
 use mathlib.Core.Path.{_≡_, refl, sym, ap, _∙_}
 use Rattle.space_table.specs.Table.{spacesIn}
 use Rattle.cmd_decode.specs.Decoding.{readingOf}
-use Rattle.exec_spec.specs.Handling.{fixed, contents, handle}
-use Rattle.exec_spec.proofs.HandlingLaws.{request-handled, handle-bounds, announced}
+use Rattle.exec_spec.specs.Handling.{fixed, handle}
+use Rattle.exec_spec.specs.LentBoard.{contentsIn}
+use Rattle.exec_spec.proofs.HandlingLaws.{request-handled, handle-bounds, announced, leaves}
 use borrow.Author.Needs.{needs}
 use Rattle.exec_datagram.proofs.handle.Statement.{statement}
 use Rattle.exec_datagram.proofs.handle.Tie as tie
@@ -24,8 +25,8 @@ returns : tie.Need-returns
 unfolding handle
 returns c = (
   rw (← c .before .before .before .decode .ensures, c .before .decoded .given .1)
-      (record { answer = record { answer = refl; buffer = refl }; memory = refl; lock = refl; short = tt }),
-  (handle-bounds, announced),
+      (record { answer = record { answer = refl; buffer = refl }; contents = refl; short = tt }),
+  (handle-bounds, (announced, leaves)),
 )
 
 returns-2 : tie.Need-returns-2
@@ -37,7 +38,7 @@ returns-2 c =
     let x = fixed (a .alias) (a .write-lengths) (spacesIn (a .spaces .now)) (a .flash .now) in
     let d = a .datagram .now in
     let e = sym (k .decode .ensures) ∙ ap (λ r. readingOf r d) (q .decoded2 .given .1) in
-    (request-handled x (contents (a .memory .now) (a .lock .now)) d e (p .perform .ensures), (handle-bounds, announced))
+    (request-handled x (contentsIn (a .memory .now) (a .registers .now)) d e (p .perform .ensures), (handle-bounds, (announced, leaves)))
 
 pub handle-spec : {M : Type 1} → statement M
 handle-spec =

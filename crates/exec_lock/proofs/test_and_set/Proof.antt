@@ -7,17 +7,16 @@ use Rattle.exec_lock.proofs.test_and_set.Statement.{statement}
 use Rattle.exec_lock.proofs.test_and_set.Tie as tie
 
 returns : tie.Need-returns
-returns c = other-length (c .before .before .args .lock .now) (c .before .before .args .id .now) (λ e. omega (arith, c .if1 .taken))
+returns c =
+    six-sent _ _ (omega arith) (c .reserved .ensures)
 
 returns-2 : tie.Need-returns-2
-returns-2 c =
-    six-sent _ _ (omega arith) (c .reserved .ensures)
+returns-2 c = let a = c .before .before .args in other-length (a .held) (a .id .now) (λ e. omega (arith, c .if1 .left))
 
 pub test-and-set-spec : {M : Type 1} → statement M
 test-and-set-spec =
     tie.close
     (tie.spec
-    returns
     (λ c. search needs)
     (λ c. search needs)
     (λ c. search needs)
@@ -25,4 +24,5 @@ test-and-set-spec =
     (λ c. search needs)
     (λ c. search needs)
     (λ c κs. search needs)
+    returns
     returns-2)

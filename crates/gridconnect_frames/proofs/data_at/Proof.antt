@@ -2,7 +2,7 @@
 -- Assumes nothing.
 use native.Mathlib.Omega.{arith}
 use mathlib.Core.Path.{refl}
-use Rattle.gridconnect_frames.specs.Printing.{frameInBytes}
+use Rattle.can_frame_bytes.specs.Layout.{frameInBytes}
 use Rattle.gridconnect_frames.proofs.data_at.Statement.{statement}
 use Rattle.gridconnect_frames.proofs.data_at.Tie as tie
 

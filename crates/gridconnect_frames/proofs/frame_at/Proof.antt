@@ -7,7 +7,7 @@ use native.Mathlib.Nat.{add-assoc}
 use native.Mathlib.Omega.{arith}
 use lib.ListN.{getD}
 use borrow.Author.Needs.{needs}
-use Rattle.gridconnect_frames.specs.Printing.{frameInBytes}
+use Rattle.can_frame_bytes.specs.Layout.{frameInBytes}
 use Rattle.gridconnect_frames.proofs.frame_at.Statement.{statement}
 use Rattle.gridconnect_frames.proofs.frame_at.Tie as tie
 

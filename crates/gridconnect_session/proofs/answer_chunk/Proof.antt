@@ -6,8 +6,9 @@ use native.Mathlib.Omega.{arith}
 use lib.ListN.{length}
 use borrow.Author.Needs.{needs}
 use Rattle.space_table.specs.Table.{spacesIn}
-use Rattle.rx_spec.specs.PlaceBytes.{stateIn}
-use Rattle.exec_spec.specs.Handling.{fixed, contents}
+use Rattle.rx_place_spec.specs.PlaceBytes.{stateIn}
+use Rattle.exec_spec.specs.Handling.{fixed}
+use Rattle.exec_spec.specs.LentBoard.{contentsIn}
 use Rattle.gridconnect_frames.proofs.RoomLaws.{room-none, room-there}
 use Rattle.gridconnect_session_spec.proofs.SessionLaws.{any-chunks}
 use Rattle.gridconnect_session.proofs.ChunkLaws.{Going, going-start, going-next, going-full, going-end, step-onward}
@@ -15,12 +16,12 @@ use Rattle.gridconnect_session.proofs.answer_chunk.Statement.{statement
 use Rattle.gridconnect_session.proofs.answer_chunk.Tie as tie
 
 abbrev Inv-loop : tie.InvT-loop
-Inv-loop alias write-lengths spaces flash memory₀ lock₀ pool₀ places₀ chunk from out₀ carry₀ at₀ end₀ memory lock pool places out carry at end =
+Inv-loop alias write-lengths spaces flash memory₀ registers₀ pool₀ places₀ chunk from out₀ carry₀ at₀ end₀ memory registers pool places out carry at end =
     (length memory ≡ length memory₀)
-    × Going (fixed alias write-lengths (spacesIn spaces) flash) (stateIn places₀ pool₀) (contents memory₀ lock₀) carry₀ chunk from out₀ at carry end out (contents memory lock) (stateIn places pool)
+    × Going (fixed alias write-lengths (spacesIn spaces) flash) (stateIn places₀ pool₀) (contentsIn memory₀ registers₀) carry₀ chunk from out₀ at carry end out (contentsIn memory registers) (stateIn places pool)
 
 abbrev μ-loop : tie.MeasureT-loop
-μ-loop alias write-lengths spaces flash memory₀ lock₀ pool₀ places₀ chunk from out₀ carry₀ at₀ end₀ memory lock pool places out carry at end = length chunk - at
+μ-loop alias write-lengths spaces flash memory₀ registers₀ pool₀ places₀ chunk from out₀ carry₀ at₀ end₀ memory registers pool places out carry at end = length chunk - at
 
 -- ---- the points of the code, each from a later one
 

@@ -1,8 +1,9 @@
 -- `answer_end` meets its contract.
 -- Assumes nothing.
 use Rattle.space_table.specs.Table.{spacesIn}
-use Rattle.rx_spec.specs.PlaceBytes.{stateIn}
-use Rattle.exec_spec.specs.Handling.{fixed, contents}
+use Rattle.rx_place_spec.specs.PlaceBytes.{stateIn}
+use Rattle.exec_spec.specs.Handling.{fixed}
+use Rattle.exec_spec.specs.LentBoard.{contentsIn}
 use Rattle.gridconnect_frames.proofs.RoomLaws.{room-none, room-there}
 use Rattle.gridconnect_session.proofs.ChunkLaws.{end-none, end-line}
 use borrow.Author.Needs.{needs}
@@ -38,7 +39,7 @@ returns-2 c =
     let a = start k .args in
     let x = fixed (a .alias) (a .write-lengths) (spacesIn (a .spaces .now)) (a .flash .now) in
     let st = stateIn (a .places .now) (a .pool .now) in
-    let w = contents (a .memory .now) (a .lock .now) in
+    let w = contentsIn (a .memory .now) (a .registers .now) in
     let room = room-there 0 _ (k .has-room .ensures) (t .if1 .left) in
     end-line x st w (a .carry) (a .out .now) room (l .last-line .ensures .0) (n .answer-next .ensures)
 

@@ -1,8 +1,9 @@
 -- `answer_next` meets its contract.
 -- Assumes nothing.
 use Rattle.space_table.specs.Table.{spacesIn}
-use Rattle.rx_spec.specs.PlaceBytes.{stateIn}
-use Rattle.exec_spec.specs.Handling.{fixed, contents}
+use Rattle.rx_place_spec.specs.PlaceBytes.{stateIn}
+use Rattle.exec_spec.specs.Handling.{fixed}
+use Rattle.exec_spec.specs.LentBoard.{contentsIn}
 use borrow.Author.Tests.{not-true, not-false}
 use native.Mathlib.Omega.{arith}
 use Rattle.gridconnect_session.proofs.ChunkLaws.{step-none, step-line}
@@ -32,7 +33,7 @@ returns-2 c =
     let a = s .args in
     let x = fixed (a .alias) (a .write-lengths) (spacesIn (a .spaces .now)) (a .flash .now) in
     let st = stateIn (a .places .now) (a .pool .now) in
-    let w = contents (a .memory .now) (a .lock .now) in
+    let w = contentsIn (a .memory .now) (a .registers .now) in
     step-line x st w (a .next) (a .at) (a .out .now) (s .pre) (not-false _ (t .if1 .left)) (l .answer-line .ensures)
 
 pub answer-next-spec : {M : Type 1} → statement M

@@ -2,8 +2,9 @@
 -- Assumes nothing.
 use Rattle.space_table.specs.Table.{spacesIn}
 use Rattle.can_frame.specs.Frame.{canFrame, sourceOf}
-use Rattle.rx_spec.specs.PlaceBytes.{stateIn}
-use Rattle.exec_spec.specs.Handling.{fixed, contents}
+use Rattle.rx_place_spec.specs.PlaceBytes.{stateIn}
+use Rattle.exec_spec.specs.Handling.{fixed}
+use Rattle.exec_spec.specs.LentBoard.{contentsIn}
 use Rattle.node_spec.specs.FrameCall.{frameCall}
 use Rattle.node_send.proofs.SendingLaws.{sent-is, bus-order}
 use borrow.Author.Needs.{needs}
@@ -27,7 +28,7 @@ returns c =
     let h = handled t in
     let a = start h .args in
     let x = fixed (a .alias) (a .write-lengths) (spacesIn (a .spaces .now)) (a .flash .now) in
-    let call = frameCall x (a .reply .now) (a .tick) (stateIn (a .places .now) (a .pool .now)) (contents (a .memory .now) (a .lock .now)) (canFrame (a .header) (a .payload .now)) in
+    let call = frameCall x (a .reply .now) (a .tick) (stateIn (a .places .now) (a .pool .now)) (contentsIn (a .memory .now) (a .registers .now)) (canFrame (a .header) (a .payload .now)) in
     let done = h .handle-frame .ensures .0 in
     let sent = sent-is (a .alias) (sourceOf (a .header)) (a .reply .now) (call .answer) (done .answers .answer) (done .answers .reply)
     (t .source-of .ensures .0) (c .frames-to-send .ensures) in (

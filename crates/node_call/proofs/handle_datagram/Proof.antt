@@ -2,8 +2,9 @@
 -- Assumes nothing.
 use mathlib.Core.Path.{_≡_, refl, sym, _∙_}
 use Rattle.space_table.specs.Table.{spacesIn}
-use Rattle.exec_spec.specs.Handling.{Fixed, Contents, fixed, contents}
-use Rattle.node_spec.specs.DatagramCall.{datagramCheck}
+use Rattle.exec_spec.specs.Handling.{Fixed, Contents, fixed}
+use Rattle.exec_spec.specs.LentBoard.{contentsIn}
+use Rattle.node_spec.specs.CallerErrors.{earlierCheck}
 use Rattle.node_spec.proofs.DatagramLaws.{by-sizes, call-refused, call-answered, call-small, call-changes}
 use borrow.Author.Needs.{needs}
 use Rattle.node_call.proofs.handle_datagram.Statement.{statement}
@@ -32,11 +33,11 @@ abbrev board : tie.Start → Fixed
 board s = fixed (s .args .alias) (s .args .write-lengths) (spacesIn (s .args .spaces .now)) (s .args .flash .now)
 
 abbrev world : tie.Start → Contents
-world s = contents (s .args .memory .now) (s .args .lock .now)
+world s = contentsIn (s .args .memory .now) (s .args .registers .now)
 
 -- what the check finds
-check : (k : tie.After-check-call) → datagramCheck (board (start k)) (start k .args .memory .now) (start k .args .reply .now) ≡ k .check-call .result
-check k = sym (by-sizes (board (start k)) (start k .args .memory .now) (start k .args .reply .now) (k .check-call .ensures .0))
+check : (k : tie.After-check-call) → earlierCheck (board (start k)) (world (start k)) (start k .args .reply .now) ≡ k .check-call .result
+check k = sym (by-sizes (board (start k)) (world (start k)) (start k .args .reply .now) (k .check-call .ensures .0))
 
 returns : tie.Need-returns
 returns c =

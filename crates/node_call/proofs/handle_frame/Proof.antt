@@ -4,13 +4,16 @@ use mathlib.Core.Path.{_≡_, refl, sym, _∙_}
 use Rattle.call_error.specs.declared.Checked.{Checked}
 use Rattle.can_frame.specs.Frame.{CanFrame, canFrame}
 use Rattle.space_table.specs.Table.{spacesIn}
-use Rattle.rx_spec.specs.Reception.{State, receive}
-use Rattle.rx_spec.specs.PlaceBytes.{stateIn}
-use Rattle.rx_spec.proofs.ByteLaws.{renewed-same}
-use Rattle.exec_spec.specs.Handling.{Fixed, Contents, fixed, contents}
-use Rattle.node_spec.specs.DatagramCall.{datagramCheck}
+use Rattle.rx_place_spec.specs.State.{State}
+use Rattle.rx_place_spec.specs.PlaceBytes.{stateIn}
+use Rattle.rx_place_spec.proofs.ByteLaws.{renewed-same}
+use Rattle.exec_spec.specs.Handling.{Fixed, Contents, fixed}
+use Rattle.exec_spec.specs.LentBoard.{contentsIn}
+use Rattle.node_spec.specs.CallerErrors.{earlierCheck}
 use Rattle.node_spec.proofs.DatagramLaws.{by-sizes, passed-buffer}
-use Rattle.node_spec.proofs.CallLaws.{call-refused, node-theorems}
+use Rattle.node_spec.specs.FrameCall.{frameCall}
+use Rattle.rx_join_spec.proofs.CheckLaws.{ends-inside}
+use Rattle.node_spec.proofs.CallLaws.{call-refused, earlier-fails, node-theorems}
 use Rattle.node_call.proofs.FrameLaws.{call-joined, call-keeps, call-small, call-changes}
 use borrow.Author.Needs.{needs}
 use Rattle.node_call.proofs.handle_frame.Statement.{statement}
@@ -27,8 +30,11 @@ failed c = c .before .before .before
 abbrev passed : tie.After-enum-told → tie.After-check-call
 passed c = c .before .before
 
+abbrev later : tie.After-join → tie.After-check-later
+later c = c .before .before .before
+
 abbrev joining : tie.After-join → tie.After-enum-told
-joining c = c .before .before .before
+joining c = later c .before
 
 abbrev joined : tie.After-answer-outcome-arg5 → tie.After-join
 joined c = c .before .before .before .before .before
@@ -42,7 +48,7 @@ abbrev board : tie.Start → Fixed
 board s = fixed (s .args .alias) (s .args .write-lengths) (spacesIn (s .args .spaces .now)) (s .args .flash .now)
 
 abbrev world : tie.Start → Contents
-world s = contents (s .args .memory .now) (s .args .lock .now)
+world s = contentsIn (s .args .memory .now) (s .args .registers .now)
 
 abbrev state : tie.Start → State
 state s = stateIn (s .args .places .now) (s .args .pool .now)
@@ -51,16 +57,16 @@ abbrev frame : tie.Start → CanFrame
 frame s = canFrame (s .args .header) (s .args .payload .now)
 
 -- what the check finds
-check : (k : tie.After-check-call) → datagramCheck (board (start k)) (start k .args .memory .now) (start k .args .reply .now) ≡ k .check-call .result
-check k = sym (by-sizes (board (start k)) (start k .args .memory .now) (start k .args .reply .now) (k .check-call .ensures .0))
+check : (k : tie.After-check-call) → earlierCheck (board (start k)) (world (start k)) (start k .args .reply .now) ≡ k .check-call .result
+check k = sym (by-sizes (board (start k)) (world (start k)) (start k .args .reply .now) (k .check-call .ensures .0))
 
 returns : tie.Need-returns
 returns c =
     let k = failed c in
     let s = start k in
-    let e = call-refused (board s) (s .args .reply .now) (s .args .tick) (state s) (world s) (frame s) (check k ∙ c .before .checked .given .1) in (
+    let e = call-refused (board s) (s .args .reply .now) (s .args .tick) (state s) (world s) (frame s) (earlier-fails (board s) (s .args .reply .now) (state s) (world s) (check k ∙ c .before .checked .given .1)) in (
       record {
-        answers = rw e (record { answer = refl; reply = refl; memory = refl; lock = refl; short = tt });
+        answers = rw e (record { answer = refl; reply = refl; contents = refl; short = tt });
         keeps = rw e (record { places = refl; renewal = renewed-same (s .args .places .now); pool = refl });
         small = tt;
         changes = refl;
@@ -73,7 +79,7 @@ answer-outcome-requires c κs =
     let j = joined c in
     let k = passed (joining j) in
     let s = start k in
-    (passed-buffer (board s) (s .args .memory .now) (s .args .reply .now) (check k ∙ joining j .enum-told .given .1), search needs, j .join .ensures .0 .inside)
+    (passed-buffer (board s) (world s) (s .args .reply .now) (check k ∙ joining j .enum-told .given .1), search needs, ends-inside (j .join .ensures .0))
 
 returns-2 : tie.Need-returns-2
 returns-2 c =
@@ -84,12 +90,15 @@ returns-2 c =
     let x = board s in
     let out = s .args .reply .now in
     let g = check k ∙ joining j .enum-told .given .1 in
-    let p = d .answer-outcome .ensures (receive (s .args .alias) (s .args .tick) (state s) (frame s) .state) in (
+    let l = later j .check-later .ensures x (world s) in
+    let n = j .join .ensures .0 in
+    let call = frameCall x out (s .args .tick) (state s) (world s) (frame s) in
+    let p = d .answer-outcome .ensures (call .state) in (
       record {
-        answers = rw (call-joined x out (s .args .tick) (state s) (world s) (frame s) g (j .join .ensures .0)) p;
-        keeps = call-keeps x out (s .args .tick) (state s) (world s) (frame s) g (j .join .ensures .0);
-        small = call-small x out (s .args .tick) (state s) (world s) (frame s) g (j .join .ensures .0) p;
-        changes = call-changes x out (s .args .tick) (state s) (world s) (frame s) g (j .join .ensures .0) p;
+        answers = rw (call-joined x out (s .args .tick) (s .args .places .now) (s .args .pool .now) (world s) (frame s) g l n) p;
+        keeps = call-keeps x out (s .args .tick) (s .args .places .now) (s .args .pool .now) (world s) (frame s) g l n;
+        small = call-small x out (s .args .tick) (s .args .places .now) (s .args .pool .now) (world s) (frame s) g l n p;
+        changes = call-changes x out (s .args .tick) (s .args .places .now) (s .args .pool .now) (world s) (frame s) g l n p;
       },
       node-theorems x,
     )
@@ -102,6 +111,7 @@ handle-frame-spec =
     (λ c. search needs)
     returns
     (λ c. search needs)
+    (λ c κs. search needs)
     (λ c κs. search needs)
     answer-outcome-requires
     (λ c. search needs)

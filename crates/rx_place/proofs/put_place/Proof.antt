@@ -7,8 +7,8 @@ use native.Mathlib.Omega.{arith}
 use borrow.Author.Needs.{needs}
 use Rattle.buffer.specs.Buffer.{placed}
 use Rattle.buffer.proofs.Laws.{placed-not}
-use Rattle.rx_spec.specs.Place.{place}
-use Rattle.rx_spec.specs.PlaceBytes.{placeBytes}
+use Rattle.rx_place_spec.specs.Place.{place}
+use Rattle.rx_place_spec.specs.PlaceBytes.{placeBytes}
 use Rattle.rx_place.proofs.put_place.Statement.{statement}
 use Rattle.rx_place.proofs.put_place.Tie as tie
 

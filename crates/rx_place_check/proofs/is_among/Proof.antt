@@ -7,8 +7,8 @@ use native.Mathlib.Omega.{arith}
 use borrow.Author.Needs.{needs}
 use lib.ListN.{take}
 use Rattle.rx_spec.specs.Reception.{hasPlace}
-use Rattle.rx_spec.specs.PlaceBytes.{placesIn}
-use Rattle.rx_spec.proofs.ByteLaws.{places-length}
+use Rattle.rx_place_spec.specs.PlaceBytes.{placesIn}
+use Rattle.rx_place_spec.proofs.ByteLaws.{places-length}
 use Rattle.rx_place_check.proofs.BesideLaws.{has-next, has-later}
 use Rattle.rx_place_check.proofs.is_among.Statement.{statement}
 use Rattle.rx_place_check.proofs.is_among.Tie as tie

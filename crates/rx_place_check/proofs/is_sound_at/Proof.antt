@@ -7,9 +7,9 @@ use lib.Dec.{leb}
 use lib.ListN.{take, getD}
 use borrow.Author.Needs.{needs}
 use borrow.Author.Tests.{not-true, not-false, le-leb, lt-leb}
-use Rattle.rx_spec.specs.Place.{Place, freePlace}
+use Rattle.rx_place_spec.specs.Place.{Place, freePlace}
 use Rattle.rx_spec.specs.Reception.{hasPlace}
-use Rattle.rx_spec.specs.PlaceBytes.{placesIn}
+use Rattle.rx_place_spec.specs.PlaceBytes.{placesIn}
 use Rattle.rx_place_check.proofs.BesideLaws.{held-there, plain-sound, held-not-plain, sound-not, sound-large, sound-alone}
 use Rattle.rx_place_check.proofs.is_sound_at.Statement.{statement}
 use Rattle.rx_place_check.proofs.is_sound_at.Tie as tie

@@ -6,9 +6,9 @@ use native.Mathlib.Omega.{arith}
 use lib.ListN.{take}
 use borrow.Author.Needs.{needs}
 use borrow.Author.Tests.{not-true, not-false}
-use Rattle.rx_spec.specs.PlaceBytes.{placesIn}
+use Rattle.rx_place_spec.specs.PlaceBytes.{placesIn}
 use Rattle.rx_spec.proofs.PlaceLaws.{Good}
-use Rattle.rx_spec.proofs.ByteLaws.{places-length}
+use Rattle.rx_place_spec.proofs.ByteLaws.{places-length}
 use Rattle.rx_search.proofs.SearchLaws.{sound-next, sound-not, sound-all}
 use Rattle.rx_search.proofs.are_let_pass.Statement.{statement}
 use Rattle.rx_search.proofs.are_let_pass.Tie as tie

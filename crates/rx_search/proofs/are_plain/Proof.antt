@@ -7,10 +7,10 @@ use lib.ListN.{take, getD}
 use borrow.Author.Needs.{needs}
 use borrow.Author.Tests.{not-false}
 use Rattle.buffer.proofs.Choice.{clash}
-use Rattle.rx_spec.specs.Place.{freePlace}
-use Rattle.rx_spec.specs.PlaceBytes.{placesIn}
+use Rattle.rx_place_spec.specs.Place.{freePlace}
+use Rattle.rx_place_spec.specs.PlaceBytes.{placesIn}
 use Rattle.rx_spec.proofs.PlaceLaws.{Good}
-use Rattle.rx_spec.proofs.ByteLaws.{places-length}
+use Rattle.rx_place_spec.proofs.ByteLaws.{places-length}
 use Rattle.rx_place_check.proofs.BesideLaws.{plain-sound}
 use Rattle.rx_search.proofs.SearchLaws.{sound-next, sound-all}
 use Rattle.rx_search.proofs.are_plain.Statement.{statement}

@@ -8,8 +8,8 @@ use borrow.Author.Needs.{needs}
 use borrow.Author.Tests.{not-true, not-false}
 use lib.ListN.{drop}
 use Rattle.rx_spec.specs.Reception.{freeIn}
-use Rattle.rx_spec.specs.PlaceBytes.{placesIn}
-use Rattle.rx_spec.proofs.ByteLaws.{places-length}
+use Rattle.rx_place_spec.specs.PlaceBytes.{placesIn}
+use Rattle.rx_place_spec.proofs.ByteLaws.{places-length}
 use Rattle.rx_search.proofs.SearchLaws.{free-here, free-next, free-none}
 use Rattle.rx_search.proofs.find_free.Statement.{statement}
 use Rattle.rx_search.proofs.find_free.Tie as tie

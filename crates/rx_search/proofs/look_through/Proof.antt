@@ -8,10 +8,10 @@ use Prim.Native.Nat.{ℕ, _-_}
 use native.Mathlib.Omega.{arith}
 use lib.ListN.{take, getD}
 use borrow.Author.Needs.{needs}
-use Rattle.rx_spec.specs.Place.{freePlace}
-use Rattle.rx_spec.specs.Ticks.{isDue}
-use Rattle.rx_spec.specs.PlaceBytes.{placesIn}
-use Rattle.rx_spec.proofs.ByteLaws.{places-length}
+use Rattle.rx_place_spec.specs.Place.{freePlace}
+use Rattle.rx_place_spec.specs.Ticks.{isDue}
+use Rattle.rx_place_spec.specs.PlaceBytes.{placesIn}
+use Rattle.rx_place_spec.proofs.ByteLaws.{places-length}
 use Rattle.rx_search.specs.Search.{anyDue, looked}
 use Rattle.rx_search.proofs.SearchLaws.{Passed, plain-found, turn, due-next, looked-bad, looked-done}
 use Rattle.rx_search.proofs.look_through.Statement.{statement}

@@ -4,8 +4,8 @@ use mathlib.Core.Path.{sym}
 use mathlib.Core.Logic.{⊎-elim}
 use borrow.Author.Needs.{needs}
 use Rattle.buffer.proofs.Choice.{clash}
-use Rattle.rx_spec.specs.PlaceBytes.{placesIn}
-use Rattle.rx_spec.proofs.ByteLaws.{places-length}
+use Rattle.rx_place_spec.specs.PlaceBytes.{placesIn}
+use Rattle.rx_place_spec.proofs.ByteLaws.{places-length}
 use Rattle.rx_search.proofs.IdleLaws.{none-found}
 use Rattle.rx_search.proofs.look_up.Statement.{statement}
 use Rattle.rx_search.proofs.look_up.Tie as tie

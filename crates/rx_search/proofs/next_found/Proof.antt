@@ -4,8 +4,8 @@ use mathlib.Core.Path.{sym, _∙_}
 use lib.ListN.{take, getD}
 use borrow.Author.Needs.{needs}
 use borrow.Author.Tests.{not-true, not-false}
-use Rattle.rx_spec.specs.Place.{freePlace}
-use Rattle.rx_spec.specs.PlaceBytes.{placesIn}
+use Rattle.rx_place_spec.specs.Place.{freePlace}
+use Rattle.rx_place_spec.specs.PlaceBytes.{placesIn}
 use Rattle.rx_search.proofs.SearchLaws.{next-bad, next-here, next-else}
 use Rattle.rx_search.proofs.next_found.Statement.{statement}
 use Rattle.rx_search.proofs.next_found.Tie as tie

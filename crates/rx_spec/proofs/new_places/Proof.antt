@@ -2,16 +2,14 @@
 -- Assumes nothing.
 use mathlib.Core.Path.{refl}
 use Rattle.rx_spec.specs.Reception.{isFor}
-use Rattle.rx_spec.specs.PlaceBytes.{placesIn}
+use Rattle.rx_place_spec.specs.PlaceBytes.{placesIn}
 use Rattle.rx_spec.proofs.Order.{join-order}
-use Rattle.rx_spec.proofs.FreePlaces.{join-aging}
-use Rattle.rx_spec.proofs.OneSource.{join-one-source, one-rejection}
 use Rattle.rx_spec.proofs.new_places.Statement.{statement}
 use Rattle.rx_spec.proofs.new_places.Tie as tie
 
 returns : tie.Need-returns
 unfolding isFor placesIn
-returns c = (refl, (refl, (λ pool s. refl, (λ pool e. record { passes-b7 = refl; eight = refl; bytes = e; nothing-unfinished = λ s. refl }, (join-order, (join-aging, (join-one-source, one-rejection)))))))
+returns c = (refl, (refl, (λ pool s. refl, (λ pool e. record { passes-b7 = refl; eight = refl; bytes = e; nothing-unfinished = λ s. refl }, join-order))))
 
 pub new-places-spec : {M : Type 1} → statement M
 new-places-spec = tie.close (tie.spec returns)

@@ -3,7 +3,7 @@
 use mathlib.Core.Path.{sym, _∙_}
 use borrow.Author.Needs.{needs}
 use borrow.Author.Tests.{not-true, not-false}
-use Rattle.rx_spec.specs.Ticks.{isDue}
+use Rattle.rx_place_spec.specs.Ticks.{isDue}
 use Rattle.rx_timeout.proofs.is_due.Statement.{statement}
 use Rattle.rx_timeout.proofs.is_due.Tie as tie
 

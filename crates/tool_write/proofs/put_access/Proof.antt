@@ -14,10 +14,10 @@ abbrev start : tie.After-form-for → tie.Start
 start c = c .before .before .before
 
 abbrev form : tie.After-send → tie.After-form-for
-form c = c .before .before .before
+form c = c .before .before
 
-add-t14 : tie.Need-add-t14
-add-t14 c =
+add-t12 : tie.Need-add-t12
+add-t12 c =
     let f = form (c .before .before .before) in
     let h = rw (f .form-for .ensures) at (c .head-length .ensures) in
     omega (arith, head-small (start f .args .space))
@@ -25,11 +25,12 @@ add-t14 c =
 returns : tie.Need-returns
 returns c =
     let s = c .before .before .before in
+    let a = start (form s) .args in
     let f = form s .form-for .ensures in (
-      ap Length (access-length _ _ _ _ f (c .head-length .ensures)),
-      access-put _ _ _ _ f (omega arith) (omega arith) (s .before .before .control-bits .ensures .0) (s .send .ensures),
+      ap Length (access-length (a .command) (a .space) (a .address) (a .content .now) f (c .head-length .ensures)),
+      access-put _ _ _ _ f (omega arith) (omega arith) (s .send .ensures),
     )
 
 pub put-access-spec : {M : Type 1} → statement M
 put-access-spec =
-    tie.close (tie.spec (λ c κs. search needs) (λ c κs. search needs) (λ c. search needs) (λ c κs. search needs) (λ c κs. search needs) add-t14 (λ c. search needs) returns)
+    tie.close (tie.spec (λ c κs. search needs) (λ c κs. search needs) (λ c κs. search needs) add-t12 (λ c. search needs) returns)

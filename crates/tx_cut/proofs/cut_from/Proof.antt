@@ -38,4 +38,5 @@ returns-2 c =
 
 pub cut-from-spec : {M : Type 1} → statement M
 cut-from-spec =
-    tie.close (tie.spec (λ c κs. search needs) returns (λ c. search needs) (λ c. search needs) cut-whole-requires returns-2)
+    tie.close
+    (tie.spec (λ c κs. search needs) returns (λ c. search needs) (λ c. search needs) cut-whole-requires (λ c. search needs) returns-2)

@@ -6,7 +6,7 @@ use core::ops::Range;
 use super::{assert_found, found, At, ANSWERS, STATE};
 use crate::ages;
 use crate::faults::is_damaged;
-use crate::ffi::{Numbers, Places, Pool, PLACES, PLACE_BYTES, PLACE_SIZE};
+use crate::ffi::{Numbers, Places, Pool, ResultBytes, PLACES, PLACE_BYTES, PLACE_SIZE};
 use crate::generate::{Board, Incoming, LAST_ALIAS};
 use crate::joining::{FIRST, LAST, MIDDLE, SINGLE};
 use crate::layout::{canonical, held, place, set_place, Held};
@@ -371,14 +371,14 @@ impl Handler for Planted {
         numbers
     }
 
-    fn handle_tick(&self, places: &mut Places, tick: u16) -> Numbers {
+    fn handle_tick(&self, places: &mut Places, tick: u16, result: &mut ResultBytes) -> Numbers {
         if self.1 == At::Frame {
-            return Library.handle_tick(places, tick);
+            return Library.handle_tick(places, tick, result);
         }
         let before = *places;
         let shown = self.shown(&before, tick);
         *places = shown;
-        let numbers = Library.handle_tick(places, tick);
+        let numbers = Library.handle_tick(places, tick, result);
         put_back(&before, &shown, places);
         numbers
     }

@@ -1,13 +1,12 @@
 //! Holds what a board has to say to a request. It is worked out from document 01, the description of
 //! the board and its contents, and shares nothing with either side.
 
-use crate::ffi::Lock;
 use crate::generate::Board;
 use crate::tally::By;
 use crate::tool::cases::{ToolCase, ToolTally};
 use crate::tool::request::{Request, FIRST_BY_BITS};
 use crate::tool::said::{Part, Place, Said};
-use model::Space;
+use model::{Lock, Space};
 
 const UNKNOWN_SPACE: u16 = 0x1081;
 const OUT_OF_BOUNDS: u16 = 0x1082;

@@ -125,7 +125,7 @@ fn any_order(
     for way in ways {
         let other = runner.run(handler, &memory, merged(lists, way))?;
         same(
-            other.memory == run.memory && other.lock == run.lock,
+            other.memory == run.memory && other.registers == run.registers,
             "memory depends on how the writes come in between one another",
         )?;
         compare_with_alone(&other, way, &alone)?;

@@ -72,7 +72,7 @@ fn whatever_memory_holds(
     same(
         others
             .iter()
-            .all(|run| run.answers == first.answers && run.lock == first.lock),
+            .all(|run| run.answers == first.answers && run.registers == first.registers),
         "answers or lock depend on what memory holds",
     )?;
     compare_answers(list, &first.answers)?;

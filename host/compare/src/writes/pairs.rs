@@ -70,7 +70,10 @@ fn either_order(
         there.answers.iter().eq(back.answers.iter().rev()),
         "the answers depend on the order",
     )?;
-    same(there.lock == back.lock, "the lock depends on the order")?;
+    same(
+        there.registers == back.registers,
+        "the lock depends on the order",
+    )?;
     let order_matters = there.memory != back.memory;
     same(
         !(apart && order_matters),

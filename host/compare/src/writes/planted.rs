@@ -221,6 +221,7 @@ const REJECTED: Numbers = Numbers {
     reply_len: 0,
     frame_count: 0,
     position: NO_POSITION,
+    unused: 0,
 };
 
 impl Planted {
@@ -299,7 +300,7 @@ impl Planted {
             Fault::RejectedWhereNothingTouched if touched == 0 => return REJECTED,
             Fault::RejectedWhileLocked if locked => return REJECTED,
             Fault::SaidWithoutOffset => numbers.changed_at -= coming.space.offset,
-            Fault::SaidTouchedOnly if touched != 0 => numbers.changed_len = touched as u8,
+            Fault::SaidTouchedOnly if touched != 0 => numbers.changed_len = touched as u32,
             Fault::SaidOfTheEarlier => {
                 if let Some(last) = &past.last {
                     numbers.changed_at = last.bytes.start as u32;
@@ -356,7 +357,7 @@ impl Planted {
                 return;
             }
             Fault::ReplyChanged => &mut lent.reply,
-            Fault::LockChanged => &mut lent.lock,
+            Fault::LockChanged => &mut lent.registers,
             Fault::FlashChanged => &mut lent.flash,
             Fault::TableChanged => &mut lent.table,
             _ => return,
@@ -383,7 +384,7 @@ impl Handler for Planted {
             let start = numbers.changed_at as usize;
             let mut memory = before.clone();
             self.store(board, &coming, start, &past, &mut memory);
-            let locked = lent.lock.bytes() != [0; 6];
+            let locked = lent.registers.bytes() != [0; 6];
             numbers = self.answer(&coming, numbers, &past, memory != before, locked);
             lent.memory.bytes_mut().copy_from_slice(&memory);
             let bytes = start..start + coming.pairs.len();

@@ -3,8 +3,9 @@
 use borrow.Author.Needs.{needs}
 use borrow.Author.Tests.{not-true, not-false}
 use Rattle.space_table.specs.Table.{spacesIn}
-use Rattle.rx_spec.specs.PlaceBytes.{stateIn}
-use Rattle.exec_spec.specs.Handling.{fixed, contents}
+use Rattle.rx_place_spec.specs.PlaceBytes.{stateIn}
+use Rattle.exec_spec.specs.Handling.{fixed}
+use Rattle.exec_spec.specs.LentBoard.{contentsIn}
 use Rattle.gridconnect_frames.proofs.RoomLaws.{room-none, room-there}
 use Rattle.gridconnect_session_spec.proofs.TurnLaws.{line-none, line-unknown, line-handled}
 use Rattle.gridconnect_session.proofs.line.answer_line.Statement.{statement}
@@ -52,7 +53,7 @@ returns-3 c =
     let a = start k .args in
     let x = fixed (a .alias) (a .write-lengths) (spacesIn (a .spaces .now)) (a .flash .now) in
     let st = stateIn (a .places .now) (a .pool .now) in
-    let w = contents (a .memory .now) (a .lock .now) in
+    let w = contentsIn (a .memory .now) (a .registers .now) in
     let room = room-there _ _ (k .has-room .ensures) (t .if1 .left) in
     let e = f .answer-frame .ensures .0 in
     line-handled x st w (a .parsed) (a .at) (a .out .now) room (b .part .ensures) (not-false _ (g .if2 .left))

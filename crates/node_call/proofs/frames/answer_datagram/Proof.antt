@@ -1,7 +1,8 @@
 -- `answer_datagram` meets its contract.
 -- Assumes nothing.
 use Rattle.space_table.specs.Table.{spacesIn}
-use Rattle.exec_spec.specs.Handling.{fixed, contents}
+use Rattle.exec_spec.specs.Handling.{fixed}
+use Rattle.exec_spec.specs.LentBoard.{contentsIn}
 use Rattle.node_spec.proofs.CallLaws.{answers-finish}
 use borrow.Author.Needs.{needs}
 use Rattle.node_call.proofs.frames.answer_datagram.Statement.{statement}
@@ -21,7 +22,7 @@ returns : tie.Need-returns
 returns c =
     let e = start (handled c) in
     let a = e .args in
-    answers-finish (fixed (a .alias) (a .write-lengths) (spacesIn (a .spaces .now)) (a .flash .now)) (contents (a .memory .now) (a .lock .now)) (a .datagram .now) (a .reply .now) (e .pre)
+    answers-finish (fixed (a .alias) (a .write-lengths) (spacesIn (a .spaces .now)) (a .flash .now)) (contentsIn (a .memory .now) (a .registers .now)) (a .datagram .now) (a .reply .now) (e .pre)
     (handled c .handle .ensures .0)
 
 pub answer-datagram-spec : {M : Type 1} → statement M

@@ -10,9 +10,9 @@ use Rattle.rx_join.proofs.unfinished.append.Tie as tie
 returns : tie.Need-returns
 returns c =
     let p = c .before .before .before .before in
-    let e = p .before .before .before .before in
+    let e = p .before .before .before .before .before in
     let a = e .args in
-    append-done (a .i) (a .len) false (a .payload .now) (a .pool .now) (a .places .now) (e .pre .0) (e .pre .1) _ _ (p .put .ensures) refl (a .source) (a .tick)
+    append-done (a .i) (a .len) false (a .payload .now) (a .pool .now) (a .places .now) (e .pre .0) (e .pre .1) _ _ (rw (p .before .room-at .ensures) at (p .put .ensures)) refl (a .source) (a .tick)
     (record { inside = e .pre .1 .inside; size = search needs; bytes = c .hold .ensures })
 
 pub append-spec : {M : Type 1} → statement M

@@ -5,8 +5,8 @@ use mathlib.Core.Bool.{true, false, _&&_}
 use lib.Dec.{eqb}
 use lib.ListN.{getD}
 use borrow.Author.Needs.{needs}
-use Rattle.rx_spec.specs.Place.{Place, freePlace}
-use Rattle.rx_spec.specs.PlaceBytes.{placesIn}
+use Rattle.rx_place_spec.specs.Place.{Place, freePlace}
+use Rattle.rx_place_spec.specs.PlaceBytes.{placesIn}
 use Rattle.rx_join_spec.proofs.JoinLaws.{swallow-same, swallow-else}
 use Rattle.rx_join.proofs.unfinished.swallow.Statement.{statement}
 use Rattle.rx_join.proofs.unfinished.swallow.Tie as tie

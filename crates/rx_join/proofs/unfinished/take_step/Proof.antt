@@ -1,8 +1,10 @@
 -- `rx_join::unfinished::take_step` meets its contract: each arm by what its function ensures.
 -- Assumes nothing.
+use mathlib.Core.Path.{refl}
 use lib.Dec.{ltb}
 use borrow.Author.Needs.{needs}
-use Rattle.rx_spec.specs.PlaceBytes.{stateIn}
+use Rattle.rx_spec.specs.Books.{ignored, noAnswer, refuse, finish}
+use Rattle.rx_place_spec.specs.PlaceBytes.{stateIn}
 use Rattle.rx_join_spec.specs.declared.JoinResult.the-variants as outcome
 use Rattle.rx_join_spec.proofs.JoinLaws.{stays-joins, left-joins}
 use Rattle.rx_join_spec.proofs.LieLaws.{no-answer, refused, opening, nowhere}
@@ -12,14 +14,14 @@ use Rattle.rx_join.proofs.unfinished.take_step.Tie as tie
 returns : tie.Need-returns
 returns c =
     let a = c .before .before .before .before .args in
-    (rw (c .enum-told .given .1) (stays-joins (a .payload .now) (a .pool .now) (a .places .now) outcome.Ignored tt), tt)
+    (rw (c .enum-told .given .1) (stays-joins (a .payload .now) (a .pool .now) (a .places .now) outcome.Ignored ignored refl tt), tt)
 
 returns-2 : tie.Need-returns-2
 returns-2 c =
     let e = c .before .before .before .before .before .before in
     let a = e .args in (
       rw (c .before .before .enum-told2 .given .1, c .leave .ensures .1)
-          (left-joins (a .i) (a .payload .now) (a .pool .now) (a .places .now) outcome.InFrame _ tt (search needs) (e .pre .1) (c .leave .ensures .0)),
+          (left-joins (a .i) (a .payload .now) (a .pool .now) (a .places .now) outcome.InFrame (finish (a .payload .now)) _ refl tt (search needs) (e .pre .1) (c .leave .ensures .0)),
       rw (c .leave .ensures .1) (c .before .before .enum-told2 .given .1),
     )
 
@@ -58,7 +60,7 @@ returns-6 c =
     let e = t .before .before .before .before in
     let a = e .args in (
       rw (t .step .given .1, c .leave2 .ensures .1)
-          (left-joins (a .i) (a .payload .now) (a .pool .now) (a .places .now) (outcome.Refuse _) _ tt (search needs) (e .pre .1) (c .leave2 .ensures .0)),
+          (left-joins (a .i) (a .payload .now) (a .pool .now) (a .places .now) (outcome.TransportRefusal _) (refuse _) _ refl tt (search needs) (e .pre .1) (c .leave2 .ensures .0)),
       rw (c .leave2 .ensures .1) tt,
     )
 
@@ -87,7 +89,7 @@ returns-9 c =
     let e = c .before .before .before .before .before .before in
     let a = e .args in (
       rw (c .before .before .enum-told7 .given .1, c .leave3 .ensures .1)
-          (left-joins (a .i) (a .payload .now) (a .pool .now) (a .places .now) outcome.NoAnswer _ tt (search needs) (e .pre .1) (c .leave3 .ensures .0)),
+          (left-joins (a .i) (a .payload .now) (a .pool .now) (a .places .now) outcome.NoAnswer noAnswer _ refl tt (search needs) (e .pre .1) (c .leave3 .ensures .0)),
       rw (c .leave3 .ensures .1) tt,
     )
 

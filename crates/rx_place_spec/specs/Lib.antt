@@ -1,0 +1,4 @@
+pub mod Place
+pub mod Ticks
+pub mod State
+pub mod PlaceBytes

@@ -1,0 +1,5 @@
+pub mod Aging
+pub mod FreePlaces
+pub mod OneSource
+pub mod NineTools
+pub mod Examples
