@@ -5,8 +5,8 @@ use borrow.Author.Needs.{needs}
 use Rattle.tool_result_spec.specs.Layout.{acknowledgedBytes}
 use Rattle.tool_result.proofs.received_into.Statement.{statement}
 use Rattle.tool_result.proofs.received_into.Tie as tie
-use Rattle.tool_result.proofs.of_received.Reads as of-received-reads
-use Rattle.tool_result.proofs.put_acknowledged.Reads as put-acknowledged-reads
+use Rattle.tool_result.proofs.fields.of_received.Reads as of-received-reads
+use Rattle.tool_result.proofs.layout.put_acknowledged.Reads as put-acknowledged-reads
 
 -- src/lib.rt:439:1
 returns : tie.Need-returns

@@ -5,8 +5,8 @@ use borrow.Author.Needs.{needs}
 use Rattle.tool_result_spec.specs.Layout.{rejectionBytes}
 use Rattle.tool_result.proofs.rejection_into.Statement.{statement}
 use Rattle.tool_result.proofs.rejection_into.Tie as tie
-use Rattle.tool_result.proofs.of_rejection.Reads as of-rejection-reads
-use Rattle.tool_result.proofs.put_rejection.Reads as put-rejection-reads
+use Rattle.tool_result.proofs.fields.of_rejection.Reads as of-rejection-reads
+use Rattle.tool_result.proofs.layout.put_rejection.Reads as put-rejection-reads
 
 -- src/lib.rt:445:1
 returns : tie.Need-returns

@@ -6,8 +6,8 @@ use Rattle.tool_result_spec.specs.Layout.{replyFieldsBytes}
 use Rattle.tool_result_spec.proofs.ApartLaws.{told-apart}
 use Rattle.tool_result.proofs.reply_into.Statement.{statement}
 use Rattle.tool_result.proofs.reply_into.Tie as tie
-use Rattle.tool_result.proofs.of_reply.Reads as of-reply-reads
-use Rattle.tool_result.proofs.put_reply.Reads as put-reply-reads
+use Rattle.tool_result.proofs.fields.of_reply.Reads as of-reply-reads
+use Rattle.tool_result.proofs.layout.put_reply.Reads as put-reply-reads
 
 -- src/lib.rt:451:1
 returns : tie.Need-returns

@@ -5,8 +5,8 @@ use borrow.Author.Needs.{needs}
 use Rattle.tool_result_spec.specs.Layout.{composedBytes}
 use Rattle.tool_result.proofs.written_into.Statement.{statement}
 use Rattle.tool_result.proofs.written_into.Tie as tie
-use Rattle.tool_result.proofs.of_written.Reads as of-written-reads
-use Rattle.tool_result.proofs.put_composed.Reads as put-composed-reads
+use Rattle.tool_result.proofs.fields.of_written.Reads as of-written-reads
+use Rattle.tool_result.proofs.layout.put_composed.Reads as put-composed-reads
 
 -- src/lib.rt:433:1
 returns : tie.Need-returns

@@ -1,8 +1,8 @@
 -- `of_rejection` meets its contract.
 -- Assumes nothing.
 use borrow.Author.Needs.{needs}
-use Rattle.tool_result.proofs.of_rejection.Statement.{statement}
-use Rattle.tool_result.proofs.of_rejection.Tie as tie
+use Rattle.tool_result.proofs.fields.of_rejection.Statement.{statement}
+use Rattle.tool_result.proofs.fields.of_rejection.Tie as tie
 
 returns : tie.Need-returns
 returns c = rw (c .before .enum-told .given .1, c .no-bytes .ensures)

@@ -1,8 +1,8 @@
 -- `text_bytes` meets its contract.
 -- Assumes nothing.
 use borrow.Author.Needs.{needs}
-use Rattle.tool_result.proofs.text_bytes.Statement.{statement}
-use Rattle.tool_result.proofs.text_bytes.Tie as tie
+use Rattle.tool_result.proofs.fields.text_bytes.Statement.{statement}
+use Rattle.tool_result.proofs.fields.text_bytes.Tie as tie
 
 returns-2 : tie.Need-returns-2
 returns-2 c = rw (c .before .before .text .given .1) (c .bytes-at .ensures)

@@ -2,8 +2,8 @@
 -- Assumes nothing.
 use native.Mathlib.Omega.{arith}
 use borrow.Author.Needs.{needs}
-use Rattle.tool_result.proofs.reply_front.Statement.{statement}
-use Rattle.tool_result.proofs.reply_front.Tie as tie
+use Rattle.tool_result.proofs.layout.reply_front.Statement.{statement}
+use Rattle.tool_result.proofs.layout.reply_front.Tie as tie
 
 -- src/lib.rt:414:9
 cast-t50 : tie.Need-cast-t50

@@ -1,8 +1,8 @@
 -- `information` meets its contract.
 -- Assumes nothing.
 use borrow.Author.Needs.{needs}
-use Rattle.tool_result.proofs.information.Statement.{statement}
-use Rattle.tool_result.proofs.information.Tie as tie
+use Rattle.tool_result.proofs.fields.information.Statement.{statement}
+use Rattle.tool_result.proofs.fields.information.Tie as tie
 
 returns : tie.Need-returns
 returns c = rw (c .enum-told .given .1)

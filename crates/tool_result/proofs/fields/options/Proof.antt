@@ -1,8 +1,8 @@
 -- `options` meets its contract.
 -- Assumes nothing.
 use borrow.Author.Needs.{needs}
-use Rattle.tool_result.proofs.options.Statement.{statement}
-use Rattle.tool_result.proofs.options.Tie as tie
+use Rattle.tool_result.proofs.fields.options.Statement.{statement}
+use Rattle.tool_result.proofs.fields.options.Tie as tie
 
 returns : tie.Need-returns
 returns c = rw (c .enum-told .given .1)

@@ -4,11 +4,11 @@ use native.Mathlib.Omega.{arith}
 use borrow.Author.Needs.{needs}
 use Rattle.tool_result_spec.specs.Layout.{replyFront, rangeBytes}
 use Rattle.tool_result.proofs.PutLaws.{put-both}
-use Rattle.tool_result.proofs.put_reply.Statement.{statement}
-use Rattle.tool_result.proofs.put_reply.Tie as tie
+use Rattle.tool_result.proofs.layout.put_reply.Statement.{statement}
+use Rattle.tool_result.proofs.layout.put_reply.Tie as tie
 use Rattle.buffer.proofs.put.Reads as put-reads
-use Rattle.tool_result.proofs.range_bytes.Reads as range-bytes-reads
-use Rattle.tool_result.proofs.reply_front.Reads as reply-front-reads
+use Rattle.tool_result.proofs.layout.range_bytes.Reads as range-bytes-reads
+use Rattle.tool_result.proofs.layout.reply_front.Reads as reply-front-reads
 
 -- src/lib.rt:422:1
 returns : tie.Need-returns

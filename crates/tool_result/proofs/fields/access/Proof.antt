@@ -1,8 +1,8 @@
 -- `access` meets its contract.
 -- Assumes nothing.
 use borrow.Author.Needs.{needs}
-use Rattle.tool_result.proofs.access.Statement.{statement}
-use Rattle.tool_result.proofs.access.Tie as tie
+use Rattle.tool_result.proofs.fields.access.Statement.{statement}
+use Rattle.tool_result.proofs.fields.access.Tie as tie
 
 returns : tie.Need-returns
 returns c = rw (c .no-information .ensures, c .before .no-options .ensures, c .before .before .form-number .ensures)

@@ -2,8 +2,8 @@
 -- Assumes nothing.
 use borrow.Author.Needs.{needs}
 use Rattle.tool_result_spec.specs.Numbers.{fieldsOfReply}
-use Rattle.tool_result.proofs.of_reply.Statement.{statement}
-use Rattle.tool_result.proofs.of_reply.Tie as tie
+use Rattle.tool_result.proofs.fields.of_reply.Statement.{statement}
+use Rattle.tool_result.proofs.fields.of_reply.Tie as tie
 
 returns : tie.Need-returns
 unfolding fieldsOfReply

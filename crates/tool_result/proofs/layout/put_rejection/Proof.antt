@@ -4,11 +4,11 @@ use native.Mathlib.Omega.{arith}
 use borrow.Author.Needs.{needs}
 use Rattle.tool_result_spec.specs.Layout.{rejectionFront, rangeBytes}
 use Rattle.tool_result.proofs.PutLaws.{put-both}
-use Rattle.tool_result.proofs.put_rejection.Statement.{statement}
-use Rattle.tool_result.proofs.put_rejection.Tie as tie
+use Rattle.tool_result.proofs.layout.put_rejection.Statement.{statement}
+use Rattle.tool_result.proofs.layout.put_rejection.Tie as tie
 use Rattle.buffer.proofs.put.Reads as put-reads
-use Rattle.tool_result.proofs.range_bytes.Reads as range-bytes-reads
-use Rattle.tool_result.proofs.rejection_front.Reads as rejection-front-reads
+use Rattle.tool_result.proofs.layout.range_bytes.Reads as range-bytes-reads
+use Rattle.tool_result.proofs.layout.rejection_front.Reads as rejection-front-reads
 
 -- src/lib.rt:374:1
 returns : tie.Need-returns
