@@ -36,7 +36,8 @@ module _ (alias lengths : ℕ) (spaces flash memory registers datagram reply res
     pub numbers : after result ≡ resultBytes datagramNumbers
     pub replied : after reply ≡ datagramLeaves .reply
     pub left : contentsAfter memory registers ≡ datagramLeaves .contents
-    pub changed : OnlyWithin (datagramNumbers .«changed_at») (datagramNumbers .«changed_len») (before memory) (after memory)
+    pub changed :
+        OnlyWithin (datagramNumbers .«changed_at») (datagramNumbers .«changed_len») (before memory) (after memory)
 
 -- After the frame call: the same, the reception state with its bytes, and the frames to send in front of their buffer.
 module _ (alias lengths : ℕ) (spaces flash memory registers pool places : LentBytes) (tick header : ℕ)
@@ -61,9 +62,11 @@ module _ (alias lengths : ℕ) (spaces flash memory registers pool places : Lent
 
 -- After the tick call: the numbers, and the bytes of the places. The pool, memory and the registers are not lent, and
 -- stay as they are.
-pub record TickReturns (places : LentBytes) (tick : ℕ) (result : LentBytes) (pool : List ℕ) (c : Contents) : Type 0 where
+pub record TickReturns (places : LentBytes) (tick : ℕ) (result : LentBytes)
+    (pool : List ℕ) (c : Contents) : Type 0 where
   pub numbers :
-      after result ≡ resultBytes (frameNumbers (frameAnswerOf (tickCall tick (stateIn (before places) pool) c .answer)) 0)
+      after result
+      ≡ resultBytes (frameNumbers (frameAnswerOf (tickCall tick (stateIn (before places) pool) c .answer)) 0)
   pub keeps : Keeps (tickCall tick (stateIn (before places) pool) c) (before places) (after places) pool
   pub contents : c ≡ tickCall tick (stateIn (before places) pool) c .world
 

@@ -26,7 +26,8 @@ unfoldable pub frameInBytes : List ℕ → ℕ → Frame
 frameInBytes bytes at = record {
   header = numberOf (getD bytes (at + 3) 0) (getD bytes (at + 2) 0) (getD bytes (at + 1) 0) (getD bytes at 0);
   len = numberOf (getD bytes (at + 7) 0) (getD bytes (at + 6) 0) (getD bytes (at + 5) 0) (getD bytes (at + 4) 0);
-  bytes = getD bytes (at + 8) 0 ∷ getD bytes (at + 9) 0 ∷ getD bytes (at + 10) 0 ∷ getD bytes (at + 11) 0 ∷ getD bytes (at + 12) 0 ∷ getD bytes (at + 13) 0 ∷ getD bytes (at + 14) 0 ∷ getD bytes (at + 15) 0 ∷ [];
+  bytes = getD bytes (at + 8) 0 ∷ getD bytes (at + 9) 0 ∷ getD bytes (at + 10) 0 ∷ getD bytes (at + 11) 0
+      ∷ getD bytes (at + 12) 0 ∷ getD bytes (at + 13) 0 ∷ getD bytes (at + 14) 0 ∷ getD bytes (at + 15) 0 ∷ [];
 }
 
 -- A frame is found again where its bytes lie.

@@ -86,8 +86,8 @@ Names Fd space = space ≡ 0xFD
 Names Fe space = space ≡ 0xFE
 Names Ff space = space ≡ 0xFF
 
--- The first bytes of every command and reply that has an address: 0x20, byte 1 with the low two bits of the form, "Bytes
--- 2–5 are the address, most significant first", and byte 6 only where the low two bits are zero.
+-- The first bytes of every command and reply that has an address: 0x20, byte 1 with the low two bits of the form,
+-- "Bytes 2–5 are the address, most significant first", and byte 6 only where the low two bits are zero.
 unfoldable pub headBytes : ℕ → Form → ℕ → ℕ → List ℕ
 headBytes command form space address = 0x20 ∷ withForm command form ∷ (bytesOf address ++ spaceByte form space)
 

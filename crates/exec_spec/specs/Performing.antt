@@ -62,7 +62,8 @@ foundIn x space = findSpace (x .spaces) space
 abbrev pub writeOutcome : (ℕ → List ℕ → List ℕ) → Fixed → Contents → Form → ℕ → ℕ → ℕ → OutcomeBy Reply
 writeOutcome store x c form space address n =
     let reached = access true (foundIn x space) address n in
-    outcome (writeResult form space address n reached) (contents (memoryAfter store (c .memory) address reached) (c .registers))
+    outcome (writeResult form space address n reached)
+    (contents (memoryAfter store (c .memory) address reached) (c .registers))
 
 -- "0x88": the registers after an ID was sent. "The lock changes nothing else."
 abbrev pub lockTested : Registers → List ℕ → Registers
@@ -71,7 +72,8 @@ lockTested r id = withLock (testAndSet (r .lock) id) r
 -- "Reply 20 8A and the lock memory afterwards."
 abbrev pub lockOutcome : Contents → List ℕ → OutcomeBy Reply
 lockOutcome c id =
-    let left = lockTested (c .registers) id in outcome (receivedOkReply (lockReply (left .lock))) (contents (c .memory) left)
+    let left = lockTested (c .registers) id in
+    outcome (receivedOkReply (lockReply (left .lock))) (contents (c .memory) left)
 
 unfoldable pub perform : Fixed → Contents → Form → Request → OutcomeBy Reply
 perform x c form (read space address count) =
@@ -96,7 +98,8 @@ Announced updateComplete r = r ≡ updateCompleted
 
 -- of every request
 abbrev pub AllAnnounced : Type 0
-AllAnnounced = (x : Fixed) (c : Contents) (form : Form) (q : Request) → Announced q (inBytes (perform x c form q .result))
+AllAnnounced =
+    (x : Fixed) (c : Contents) (form : Form) (q : Request) → Announced q (inBytes (perform x c form q .result))
 
 -- What a request leaves of the contents, which were `old` and are `new`: a write changes memory alone, 0x88 the lock
 -- memory alone ("The lock changes nothing else"), and the others nothing.
@@ -126,7 +129,8 @@ SixBytes (reserve id) held = length held ≡ 6
 SixBytes updateComplete held = Unit {0}
 
 -- The answer r, the buffer `after` and the contents `left` are what a request does, over the buffer `before`.
-pub record Performed (x : Fixed) (c : Contents) (form : Form) (q : Request) (r : Answer) (before after : List ℕ) (left : Contents) : Type 0 where
+pub record Performed (x : Fixed) (c : Contents) (form : Form) (q : Request) (r : Answer)
+    (before after : List ℕ) (left : Contents) : Type 0 where
   pub answer : Agrees (inBytes (perform x c form q .result)) r before after
   pub contents : left ≡ perform x c form q .contents
   pub six : SixBytes q (left .registers .lock)

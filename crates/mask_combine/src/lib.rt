@@ -14,7 +14,8 @@ fn put_pair(
     together: &mut [u8; 2],
 )
     ensures { λ _.
-        ⌜ after together ≡ maskAndData (putTogether (zeroOutside (pair «earlier_mask» «earlier_data»)) (zeroOutside (pair «later_mask» «later_data»))) ⌝ }
+        ⌜ after together ≡ maskAndData (putTogether (zeroOutside (pair «earlier_mask» «earlier_data»))
+        (zeroOutside (pair «later_mask» «later_data»))) ⌝ }
 {
     let kept = earlier_data & earlier_mask & (255 - later_mask);
     *together = [earlier_mask | later_mask, kept | (later_data & later_mask)];
@@ -24,7 +25,8 @@ fn put_pair(
 // are taken from the data, the others kept. Data outside a mask play no part, and are zero in the result.
 pub fn put_together(earlier: &[u8; 2], later: &[u8; 2], together: &mut [u8; 2])
     ensures together { λ _.
-        ⌜ after together ≡ maskAndData (putTogether (zeroOutside (pairIn (before earlier))) (zeroOutside (pairIn (before later)))) ⌝ }
+        ⌜ after together ≡ maskAndData (putTogether (zeroOutside (pairIn (before earlier)))
+        (zeroOutside (pairIn (before later)))) ⌝ }
     ensures adds_up { λ _. ⌜ PairsAddUp ⌝ }
 {
     put_pair(earlier[0], earlier[1], later[0], later[1], together);

@@ -7,9 +7,11 @@ use Rattle.buffer.specs.LittleEndian.{leastFirst, eightLeastFirst, boolByte, ze
 use Rattle.mask_diff.specs.declared.NextChange.{NextChange}
 use Rattle.mask_diff.specs.declared.NextChange.the-variants.{LengthsDiffer, BufferTooShort, NoChange, ChangeAt}
 
--- 24 bytes: refusal at 0, given at 4, start at 8, count at 16; least significant byte first, and zero where no field lies.
+-- 24 bytes: refusal at 0, given at 4, start at 8, count at 16; least significant byte first, and zero where no field
+-- lies.
 abbrev pub changeBytes : ℕ → Bool → ℕ → ℕ → List ℕ
-changeBytes refusal given start count = leastFirst refusal ++ (boolByte given ∷ []) ++ zeros 3 ++ eightLeastFirst start ++ eightLeastFirst count
+changeBytes refusal given start count =
+    leastFirst refusal ++ (boolByte given ∷ []) ++ zeros 3 ++ eightLeastFirst start ++ eightLeastFirst count
 
 -- The number of each case, and its values. The refusals are numbered by themselves, and not by a paper.
 abbrev pub numbersOf : NextChange → List ℕ

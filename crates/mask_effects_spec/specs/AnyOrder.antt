@@ -58,7 +58,8 @@ Interleaves x m =
 pub record OwnReplies : Type 0 where
   pub replies : (x : Fixed) (c : Contents) (ds es fs : List (List ℕ)) → Each (λ (d : List ℕ). isWrite d ≡ true) ds → Each (λ (e : List ℕ). isWrite e ≡ true) es →
       Interleaved (List ℕ) ds es fs → Interleaved Result (resultsOf x c ds) (resultsOf x c es) (resultsOf x c fs)
-  pub registers : (x : Fixed) (c : Contents) (ds : List (List ℕ)) → Each (λ (d : List ℕ). isWrite d ≡ true) ds → contentsAfterAll x c ds .registers ≡ c .registers
+  pub registers : (x : Fixed) (c : Contents) (ds : List (List ℕ)) → Each (λ (d : List ℕ). isWrite d ≡ true) ds
+      → contentsAfterAll x c ds .registers ≡ c .registers
 
 -- ---- all of C-16
 

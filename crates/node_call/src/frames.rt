@@ -24,8 +24,8 @@ fn answer_datagram(
 ) -> FrameAnswer
     requires { ⌜ 72 ≤ length (now reply) ⌝ }
     ensures { λ r.
-        ⌜ AnswersCall (boardOf alias «write_lengths» spaces flash) (brings (finish (before datagram))) r memory registers
-        reply ⌝ }
+        ⌜ AnswersCall (boardOf alias «write_lengths» spaces flash) (brings (finish (before datagram))) r memory
+        registers reply ⌝ }
 {
     FrameAnswer::Answered(exec_datagram::handle(
         alias,

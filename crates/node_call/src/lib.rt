@@ -24,8 +24,8 @@ fn check_later() -> Checked
 }
 
 // Handles a frame that came from the bus at a tick. The caller's errors come first: those before B7 here, and B7 with
-// those after it where the frame is joined, so that one search through the places does for all. The bytes of unfinished datagrams are in the pool, 72 for each
-// place.
+// those after it where the frame is joined, so that one search through the places does for all. The bytes of unfinished
+// datagrams are in the pool, 72 for each place.
 pub fn handle_frame(
     alias: u16,
     write_lengths: u8,

@@ -61,7 +61,8 @@ ShortFrame (transportRefusal code) = Unit {0}
 ShortFrame (handled r) = Short r
 
 -- The answer r, the buffer `after` and the contents `left` are what x says, over the buffer `before`.
-pub record Answers (x : FrameResult CallError Contents Result) (r : FrameAnswer) (before after : List ℕ) (left : Contents) : Type 0 where
+pub record Answers (x : FrameResult CallError Contents Result) (r : FrameAnswer)
+    (before after : List ℕ) (left : Contents) : Type 0 where
   pub answer : r ≡ frameAnswerOf (x .answer)
   pub reply : after ≡ frameBufferOf (x .answer) before
   pub contents : left ≡ x .world
@@ -76,7 +77,8 @@ answerCall x st c (brings e) = answerEvent (handler x) st c e
 abbrev pub AnswersCall : Fixed → CallEvent → FrameAnswer → LentBytes → LentBytes → LentBytes → Type 0
 AnswersCall x e r memory registers reply =
     (st : State) →
-    Answers (answerCall x st (contentsBefore memory registers) e) r (before reply) (after reply) (contentsAfter memory registers)
+    Answers (answerCall x st (contentsBefore memory registers) e) r (before reply) (after reply)
+    (contentsAfter memory registers)
 
 -- How large the numbers of an answer are.
 abbrev pub SmallFrame : FrameAnswer → Type 0

@@ -11,8 +11,8 @@ use Rattle.reply_answer.specs.declared.Answer.{Answer}
 abbrev pub readReply : Form → ℕ → ℕ → List ℕ → Reply
 readReply = read
 
--- "a reply with the address, the space byte if the command had one, and two bytes of code": of a read, and of a write or
--- a masked write
+-- "a reply with the address, the space byte if the command had one, and two bytes of code": of a read, and of a write
+-- or a masked write
 abbrev pub failedRead : Form → ℕ → ℕ → ℕ → Reply
 failedRead form space address code = readFailure form space address code noText
 

@@ -1,6 +1,6 @@
 -- Source document 000, sections 4.5, 4.9, 4.14, 4.16 and 4.18: the language of the replies to the commands of document
--- 01. Each reply is given by its fields and the bytes that they make: nothing here says which reply a board sends, or how
--- a datagram is taken apart.
+-- 01. Each reply is given by its fields and the bytes that they make: nothing here says which reply a board sends, or
+-- how a datagram is taken apart.
 use Prim.Native.Nat.{ℕ, _/_, _%_, _≤_}
 use mathlib.Core.Path.{_≡_}
 use mathlib.Core.Bool.{Bool, true, cond, not, _&&_}
@@ -61,9 +61,11 @@ pub data Reply : Type 0 where
 -- the failures'; 20 82, 20 87 or 20 86, and 20 8A of the others.
 abbrev pub replyBytes : Reply → List ℕ
 replyBytes (read form space address bytes) = headBytes 0x50 form space address ++ bytes
-replyBytes (readFailure form space address code message) = headBytes 0x58 form space address ++ (twoBytes code ++ textBytes message)
+replyBytes (readFailure form space address code message) =
+    headBytes 0x58 form space address ++ (twoBytes code ++ textBytes message)
 replyBytes (writeDone form space address) = headBytes 0x10 form space address
-replyBytes (writeFailure form space address code message) = headBytes 0x18 form space address ++ (twoBytes code ++ textBytes message)
+replyBytes (writeFailure form space address code message) =
+    headBytes 0x18 form space address ++ (twoBytes code ++ textBytes message)
 replyBytes (options commands lengths highest low) = 0x20 ∷ 0x82 ∷ (twoBytes commands ++ lengths ∷ highest ∷ lowestBytes low)
 replyBytes (information present space highest flags low description) =
     0x20 ∷ cond present 0x87 0x86 ∷ space ∷ (bytesOf highest ++ flags ∷ (addressBytes low ++ textBytes description))

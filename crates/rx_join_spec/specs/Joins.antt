@@ -64,6 +64,7 @@ pub record Refuses (error : CallError) (o : JoinResult) (before after pool bytes
 
 -- By what the checks of the caller's errors found: an error refuses the call, and where there is none the frame is
 -- joined.
-pub record JoinEnds (checked : Checked) (j : Joined) (d : List ℕ) (o : JoinResult) (before after pool bytes : List ℕ) : Type 0 where
+pub record JoinEnds (checked : Checked) (j : Joined) (d : List ℕ) (o : JoinResult)
+    (before after pool bytes : List ℕ) : Type 0 where
   pub refuses : (error : CallError) → checked ≡ Failed error → Refuses error o before after pool bytes
   pub joins : checked ≡ Passed → Joins j d o before after bytes

@@ -90,7 +90,8 @@ pub fn are_sound(places: &[u8; 64]) -> bool
     are_let_pass(places)
 }
 
-// What the search for a source has found after place i, where it had `found` before: `UNSOUND` where place i does not pass.
+// What the search for a source has found after place i, where it had `found` before: `UNSOUND` where place i does not
+// pass.
 fn next_found(places: &[u8; 64], i: usize, source: u16, found: usize, plain: bool) -> usize
     ensures { λ r.
         ⌜ r ≡ nextFound plain source (take i (placesIn (before places))) (getD (placesIn (before places)) i freePlace) i

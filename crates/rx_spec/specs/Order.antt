@@ -95,7 +95,8 @@ acceptsFrame (frameInput f) (handled a) = true
 -- The calls cs, each made on what the one before left, are such that "no house number refuses" them.
 abbrev pub Unrefused : {C H W A : Type 0} → (State → W → C → FrameResult H W A) → State → W → List C → Type 0
 Unrefused one st w [] = Unit {0}
-Unrefused one st w (c ∷ cs) = let r = one st w c in (isCallerError (r .answer) ≡ false) × Unrefused one (r .state) (r .world) cs
+Unrefused one st w (c ∷ cs) =
+    let r = one st w c in (isCallerError (r .answer) ≡ false) × Unrefused one (r .state) (r .world) cs
 
 -- ---- what the books call for
 
@@ -142,7 +143,8 @@ AtMostEight alias cs = (n : ℕ) → unfinishedBelow 4096 (λ s. bookOf alias (t
 
 -- The calls, made one after the other, give the answers that the books call for, by what the calls bring and when; they
 -- leave what the finished datagrams leave; and "what the state has" for each source is what its book holds.
-pub record InOrder {H W A : Type 0} (handle : W → List ℕ → A × W) (alias : ℕ) (w : W) (cs : List Timed) (r : CallsResult H W A) : Type 0 where
+pub record InOrder {H W A : Type 0} (handle : W → List ℕ → A × W) (alias : ℕ) (w : W)
+    (cs : List Timed) (r : CallsResult H W A) : Type 0 where
   pub answers : r .answers ≡ answersTo handle w (eventsOf alias cs)
   pub world : r .world ≡ worldAfter handle w (datagramsOf (eventsOf alias cs))
   pub unfinished : (s : ℕ) → unfinishedFor (r .state) s ≡ bookOf alias cs s .book
@@ -185,4 +187,5 @@ joinAt alias st ds c =
 abbrev pub JoinOrder : Type 0
 JoinOrder =
     (alias : ℕ)
-    → OrderStatement (λ (c : Timed). c) (λ (c : Timed). Unit {0}) (λ (ds : List (List ℕ)). Unit {0}) keep alias (joinAt alias)
+    → OrderStatement (λ (c : Timed). c) (λ (c : Timed). Unit {0}) (λ (ds : List (List ℕ)). Unit {0})
+    keep alias (joinAt alias)

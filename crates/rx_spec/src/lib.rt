@@ -1,6 +1,6 @@
 // The reception state: eight places, of eight lent bytes each; the bytes of the unfinished datagrams lie in a lent
-// pool, 72 for each place. Its rules, the order statement and what is proved of datagrams that grow old, and of one tool
-// and its book, are in specs/, and hold of the definitions alone.
+// pool, 72 for each place. Its rules, the books and the order statement are in specs/, and hold of the definitions
+// alone.
 ghost use mathlib.Core.Path.{_≡_};
 ghost use mathlib.Core.List.{List};
 ghost use lib.ListN.{length};

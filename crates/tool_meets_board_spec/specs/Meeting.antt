@@ -26,8 +26,8 @@ use Rattle.tool_read_ack.specs.declared.RejectionIn.the-variants.{Rejection}
 
 -- ---- reply datagrams
 
--- Where an answer has a reply, the reader finds in its bytes the very fields that it is given by. The other answers have
--- none to read.
+-- Where an answer has a reply, the reader finds in its bytes the very fields that it is given by. The other answers
+-- have none to read.
 abbrev pub ReadBack : Answered Reply → Type 0
 ReadBack (datagramRejected code) = Unit {0}
 ReadBack (written index n) = Unit {0}
@@ -39,7 +39,8 @@ ReadBack (receivedOkReply reply) = replyFound (findReply (replyBytes reply)) (re
 abbrev pub RepliesRead : Type 0
 RepliesRead =
     (x : Fixed) (c : Contents) (d : List ℕ) (form : Form) (q : Request) →
-    descriptionCheck (x .alias) (x .spaces) (length (x .flash)) (length (c .memory)) ≡ Passed → length (c .registers .lock) ≡ 6 →
+    descriptionCheck (x .alias) (x .spaces) (length (x .flash)) (length (c .memory)) ≡ Passed
+    → length (c .registers .lock) ≡ 6 →
     decode d ≡ request form q → ReadBack (perform x c form q .result)
 
 -- ---- transport replies

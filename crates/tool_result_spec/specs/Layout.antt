@@ -59,12 +59,33 @@ rangeIn b = record { given = boolAt 0 b; start = numberAt 8 8 b; length = number
 
 abbrev pub optionsIn : List ℕ → OptionsFields
 optionsIn b =
-    record { commands = numberAt 0 2 b; «write_lengths» = getD b 2 0; «highest_space» = getD b 3 0; «has_lowest_space» = boolAt 4 b; «lowest_space» = getD b 5 0 }
+    record {
+      commands = numberAt 0 2 b;
+      «write_lengths» = getD b 2 0;
+      «highest_space» = getD b 3 0;
+      «has_lowest_space» = boolAt 4 b;
+      «lowest_space» = getD b 5 0;
+    }
 
 abbrev pub informationIn : List ℕ → InformationFields
 informationIn b =
-    record { «highest_address» = numberAt 0 4 b; «lowest_address» = numberAt 4 4 b; flags = getD b 8 0; present = boolAt 9 b; «has_lowest_address» = boolAt 10 b }
+    record {
+      «highest_address» = numberAt 0 4 b;
+      «lowest_address» = numberAt 4 4 b;
+      flags = getD b 8 0;
+      present = boolAt 9 b;
+      «has_lowest_address» = boolAt 10 b;
+    }
 
 abbrev pub replyIn : List ℕ → ReplyFields
 replyIn b =
-    record { kind = numberAt 0 4 b; address = numberAt 4 4 b; code = numberAt 8 2 b; space = getD b 10 0; form = getD b 11 0; options = optionsIn (drop 12 b); information = informationIn (drop 20 b); bytes = rangeIn (drop 32 b) }
+    record {
+      kind = numberAt 0 4 b;
+      address = numberAt 4 4 b;
+      code = numberAt 8 2 b;
+      space = getD b 10 0;
+      form = getD b 11 0;
+      options = optionsIn (drop 12 b);
+      information = informationIn (drop 20 b);
+      bytes = rangeIn (drop 32 b);
+    }
