@@ -11,7 +11,7 @@ use Rattle.can_frame.specs.declared.Role.the-variants.{Ignored, Single, First, 
 use Rattle.can_frame.specs.Frame.{CanFrame, sourceOf, roleOf}
 use Rattle.rx_place_spec.specs.Place.{Place, heldFor, swallowingFor, freePlace}
 use Rattle.rx_place_spec.specs.Ticks.{dropDue}
-use Rattle.rx_place_spec.specs.State.{State, state}
+pub use Rattle.rx_place_spec.specs.State.{State, state}
 use Rattle.rx_spec.specs.Books.{Book, blank, holds, swallowing, Event, ignored, noAnswer, refuse, finish, outOfOrder, temporaryError, bufferUnavailable, fits}
 
 -- ---- the state
