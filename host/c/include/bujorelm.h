@@ -17,7 +17,7 @@
  *
  * - Nothing is allocated, nothing is static: all state is the caller's. No pointer is kept after a call, so a buffer may be moved or
  *   freed as soon as the call is back (but what a struct bujorelm_node points to). Calls for different boards may run at once; calls for one
- *   board must not. Every call returns; none waits, and none calls anything outside the library, but that the line splitter calls memcpy and
+ *   board must not. Every call returns; none waits, and none calls anything outside the library, except that the line splitter calls memcpy and
  *   memset.
  * - All that a board has is lent, and changed in place. Of what is lent as `const` no byte is written. Nothing past a buffer's length is
  *   read or written.
