@@ -1,10 +1,10 @@
 /*
- * The bus on a UART, in the place of a CAN controller: frames as GridConnect lines, by the library's own reader and printer. The UART is Arm's CMSDK
- * one, as the machine mps2-an385 has it.
+ * The bus on a UART, in the place of a CAN controller: frames as GridConnect lines, by the library's own reader and
+ * printer. The UART is Arm's CMSDK one, as the machine mps2-an385 has it.
  *
- * The interrupt puts what comes into a ring. The main loop sees whole lines alone: `kept` is moved past a line when its newline has come. Where there
- * is no room for a byte the whole line is lost, what is in the ring of it too: the next line begins where that one began. So no line is ever joined
- * out of two halves.
+ * The interrupt puts what comes into a ring. The main loop sees whole lines alone: `kept` is moved past a line when its
+ * newline has come. Where there is no room for a byte the whole line is lost, what is in the ring of it too: the next
+ * line begins where that one began. So no line is ever joined out of two halves.
  */
 #include "can.h"
 
@@ -22,7 +22,8 @@ enum { CONTROL_SEND = 1, CONTROL_RECEIVE = 2, CONTROL_RECEIVE_INTERRUPT = 8 };
 
 static volatile uint8_t ring[RING_SIZE];
 
-/* Counts of bytes: up to where whole lines are kept, written by the interrupt; and up to where they are taken, written by the main loop. */
+/* Counts of bytes: up to where whole lines are kept, written by the interrupt; and up to where they are taken, written
+   by the main loop. */
 static volatile uint32_t kept;
 static volatile uint32_t taken;
 
@@ -78,7 +79,8 @@ void can_interrupt(void)
     }
 }
 
-/* Takes a line out of the ring, without its newline, and returns its length. What is longer than any frame's line is cut off: it is no frame. */
+/* Takes a line out of the ring, without its newline, and returns its length. What is longer than any frame's line is
+   cut off: it is no frame. */
 static uint32_t take_line(uint8_t *line, uint32_t room)
 {
     uint32_t at = taken;

@@ -1,6 +1,6 @@
 /*
- * A board on the bus: 64 bytes of settings that tools may read and write and that outlast a power cut, a CDI that says what they are, and a space with
- * figures about the board itself.
+ * A board on the bus: 64 bytes of settings that tools may read and write and that outlast a power cut, a CDI that says
+ * what they are, and a space with figures about the board itself.
  *
  * The order for each frame is: handle, store, send. A tool that hears Received OK can rely on what it wrote.
  */
@@ -66,7 +66,8 @@ static void refresh_about(void)
 
 /* ---- The main loop ---- */
 
-/* A frame: handled, then stored, then answered. Settings are all that tools may write, so that what was written is among them. */
+/* A frame: handled, then stored, then answered. Settings are all that tools may write, so that what was written is
+   among them. */
 static void board_receive(const struct bujorelm_frame *frame)
 {
     const struct bujorelm_result result = bujorelm_node_handle_frame(&node, (uint16_t)clock_now(), frame->header, frame->bytes, frame->len);
@@ -103,7 +104,8 @@ int main(void)
     }
     settings_load(memory.settings);
     bujorelm_node_start(&node, &description, (const uint8_t *)cdi, sizeof cdi, (uint8_t *)&memory, sizeof memory);
-    /* A description that the library refuses shows here, before the first frame: in a debugger by node and this place. */
+    /* A description that the library refuses shows here, before the first frame: in a debugger by node and this
+       place. */
     if (bujorelm_node_check(&node).kind == BUJORELM_REFUSED) {
         board_halt();
     }

@@ -1,7 +1,7 @@
 /*
- * What the archive calls outside itself: bytes copied and set, under their names in C and, on Arm, under those of the processor's run-time ABI.
- * A firmware that is linked with a C library leaves this file out. It is compiled with -fno-builtin, so that no compiler makes a call of memcpy
- * out of the loop in memcpy.
+ * What the archive calls outside itself: bytes copied and set, under their names in C and, on Arm, under those of the
+ * processor's run-time ABI. A firmware that is linked with a C library leaves this file out. It is compiled with
+ * -fno-builtin, so that no compiler makes a call of memcpy out of the loop in memcpy.
  */
 #include <stddef.h>
 #include <stdint.h>

@@ -1,9 +1,11 @@
 /*
- * Settings that outlast a power cut, in two pages that are written by turns. A page is good where its check says so, and of two good ones the later
- * counts. So while one is being written the other is whole, at whatever moment power fails.
+ * Settings that outlast a power cut, in two pages that are written by turns. A page is good where its check says so,
+ * and of two good ones the later counts. So while one is being written the other is whole, at whatever moment power
+ * fails.
  *
- * The memory is emulated: on the machine mps2-an385 it is RAM that keeps its bytes through a reset, and through a power cut where qemu has it in a file
- * (docs/FIRMWARE.md). page_write is what a real chip's flash or EEPROM takes the place of; it takes as long as one of those.
+ * The memory is emulated: on the machine mps2-an385 it is RAM that keeps its bytes through a reset, and through a power
+ * cut where qemu has it in a file (docs/FIRMWARE.md). page_write is what a real chip's flash or EEPROM takes the place
+ * of; it takes as long as one of those.
  */
 #include "board.h"
 
@@ -19,7 +21,8 @@ struct page {
 /* From the linker script. */
 extern volatile struct page settings_pages[2];
 
-/* The check of a page: CRC-32 of all that is in front of it. A page of zeros or ones, as a chip has them that was never written, is not good. */
+/* The check of a page: CRC-32 of all that is in front of it. A page of zeros or ones, as a chip has them that was never
+   written, is not good. */
 static uint32_t check_of(const struct page *page)
 {
     const uint8_t *const bytes = (const uint8_t *)page;

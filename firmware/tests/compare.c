@@ -1,10 +1,11 @@
 /*
- * The library on this processor against the same library on another: random boards, frames, ticks, datagrams, lines and damaged states, all from one
- * seed. After every call every byte that was lent, and every result, goes into a checksum, which is printed after each batch. The same source is an
- * image for an emulated processor and a program for a PC; what the two print must be the same, byte for byte.
+ * The library on this processor against the same library on another: random boards, frames, ticks, datagrams, lines and
+ * damaged states, all from one seed. After every call every byte that was lent, and every result, goes into a checksum,
+ * which is printed after each batch. The same source is an image for an emulated processor and a program for a PC; what
+ * the two print must be the same, byte for byte.
  *
- * Input: numbers in decimal digits, with a blank or a newline behind each: the seed, the batches, and where a third one is not 0, the call at which a
- * difference is planted: one bit of its result is turned over.
+ * Input: numbers in decimal digits, with a blank or a newline behind each: the seed, the batches, and where a third one
+ * is not 0, the call at which a difference is planted: one bit of its result is turned over.
  *
  * Built with MEASURE_STACK it prints, behind the checksums, the most stack that each call took, with its arguments.
  *

@@ -1,7 +1,8 @@
 /*
- * The instructions that calls take: the library's and those of a plain board in C that does the same, on the same processor. For each row the steps
- * of the machine's count are printed that REPEATS calls take, with what the loop itself takes; figures.py makes instructions out of them. Where the
- * two boards answer differently the image ends with status 1.
+ * The instructions that calls take: the library's and those of a plain board in C that does the same, on the same
+ * processor. For each row the steps of the machine's count are printed that REPEATS calls take, with what the loop
+ * itself takes; figures.py makes instructions out of them. Where the two boards answer differently the image ends with
+ * status 1.
  */
 #include "demonstration.h"
 #include "machine.h"

@@ -1,7 +1,8 @@
 /*
- * A plain board in C, as somebody writes it who has the paper and no prover: it looks for the caller's errors, frees what is due, joins frames, reads
- * and writes spaces, and cuts replies. It has reads, writes and rejections, and not the other commands. Numbers are the processor's own: indices have 32 bits there. What
- * it gives is held to what the library gives (instructions.c).
+ * A plain board in C, as somebody writes it who has the paper and no prover: it looks for the caller's errors, frees
+ * what is due, joins frames, reads and writes spaces, and cuts replies. It has reads, writes and rejections, and not
+ * the other commands. Numbers are the processor's own: indices have 32 bits there. What it gives is held to what the
+ * library gives (instructions.c).
  */
 #include "plain.h"
 
@@ -160,7 +161,8 @@ static void reject(uint32_t kind, uint16_t code, uint16_t alias, uint16_t tool, 
     put_transport(frames, 0x19A48000u, alias, tool, rest, 2);
 }
 
-/* The head of a reply to a read or a write: its command with the reply's bits, the address, and the space where the command names it. */
+/* The head of a reply to a read or a write: its command with the reply's bits, the address, and the space where the
+   command names it. */
 static void put_head(uint8_t *reply, const uint8_t *d, size_t head, uint8_t bits)
 {
     for (size_t i = 0; i < head; i++) {

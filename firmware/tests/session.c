@@ -1,5 +1,5 @@
-/* A GridConnect session on standard input, answered by the demonstration board as the reference host answers it. The lines are split off by the
-   library, out of chunks of several sizes. */
+/* A GridConnect session on standard input, answered by the demonstration board as the reference host answers it. The
+   lines are split off by the library, out of chunks of several sizes. */
 #include "demonstration.h"
 #include "machine.h"
 

@@ -1,6 +1,6 @@
 /*
- * The vectors of the paper: whole datagrams, each on a fresh demonstration board, and boards that are refused. It reads and prints what the program
- * crates/demo_vectors reads and prints; there the lines are explained.
+ * The vectors of the paper: whole datagrams, each on a fresh demonstration board, and boards that are refused. It reads
+ * and prints what the program crates/demo_vectors reads and prints; there the lines are explained.
  */
 #include "demonstration.h"
 #include "machine.h"
@@ -159,8 +159,8 @@ static uint32_t three_bytes(size_t at)
     return (uint32_t)row.bytes[at] << 16 | (uint32_t)row.bytes[at + 1] << 8 | row.bytes[at + 2];
 }
 
-/* The error of a board, by an empty datagram: it is rejected, whatever the board is, so that neither flash nor memory nor the reply buffer is looked
-   at, and they need not be there. */
+/* The error of a board, by an empty datagram: it is rejected, whatever the board is, so that neither flash nor memory
+   nor the reply buffer is looked at, and they need not be there. */
 static void run_board(void)
 {
     const size_t head = row.len < BOARD_HEAD ? row.len : BOARD_HEAD;

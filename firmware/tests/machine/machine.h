@@ -1,5 +1,5 @@
-/* What a test image has of the emulated machine: its standard input and output, its end, and a count that repeats exactly. The same functions are
-   there on a PC (pc.c), so that an image and a program can be one source. */
+/* What a test image has of the emulated machine: its standard input and output, its end, and a count that repeats
+   exactly. The same functions are there on a PC (pc.c), so that an image and a program can be one source. */
 #ifndef MACHINE_H
 #define MACHINE_H
 
@@ -20,8 +20,8 @@ void machine_say_hex(uint32_t number);
 /* Ends the machine with an exit status. */
 void machine_leave(int status) __attribute__((noreturn));
 
-/* Starts the count and reads it, as a count that only grows, in steps of some instructions: machine_count_step gives a thousandth of the instructions
-   of a step. It is exact where qemu runs with `-icount shift=0`. */
+/* Starts the count and reads it, as a count that only grows, in steps of some instructions: machine_count_step gives a
+   thousandth of the instructions of a step. It is exact where qemu runs with `-icount shift=0`. */
 void machine_count_start(void);
 uint32_t machine_count(void);
 uint32_t machine_count_step(void);

@@ -1,6 +1,6 @@
 /*
- * A machine of qemu, for Arm and RISC-V: start-up code, and what the image asks qemu for by semihosting (a trap with a number and a block of
- * words).
+ * A machine of qemu, for Arm and RISC-V: start-up code, and what the image asks qemu for by semihosting (a trap with a
+ * number and a block of words).
  */
 #include "machine.h"
 
@@ -57,7 +57,8 @@ static uint32_t ask(uint32_t number, const void *block)
     return r0;
 }
 
-/* SysTick counts down from 2^24 - 1 at the processor's clock; qemu takes an instruction for a nanosecond. It stands at 0 until its first step. */
+/* SysTick counts down from 2^24 - 1 at the processor's clock; qemu takes an instruction for a nanosecond. It stands at
+   0 until its first step. */
 #define SYST ((volatile uint32_t *)0xE000E010u)
 
 void machine_count_start(void)

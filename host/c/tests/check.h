@@ -1,5 +1,5 @@
-/* What the test programs share: checks that say where they failed, bytes from hex digits, pseudo-random numbers, buffers between pages that
-   cannot be touched, and room for what comes of a call. */
+/* What the test programs share: checks that say where they failed, bytes from hex digits, pseudo-random numbers,
+   buffers between pages that cannot be touched, and room for what comes of a call. */
 #ifndef BUJORELM_CHECK_H
 #define BUJORELM_CHECK_H
 
@@ -107,9 +107,9 @@ static inline void random_bytes(uint8_t *bytes, size_t len)
 }
 
 /*
- * A buffer with a page on each side that faults when touched, so that a read or write outside it ends the program even though the library
- * is compiled without a sanitizer. The buffer's last byte is the last before the page behind it; with `at_start` its first byte is the first
- * behind the page before it.
+ * A buffer with a page on each side that faults when touched, so that a read or write outside it ends the program even
+ * though the library is compiled without a sanitizer. The buffer's last byte is the last before the page behind it;
+ * with `at_start` its first byte is the first behind the page before it.
  */
 struct guarded {
     uint8_t *bytes;
@@ -159,8 +159,9 @@ static inline void guarded_free(struct guarded *g)
 #define ROOM_MAX 64u
 
 /*
- * Room for a struct that a call is lent for what comes of it, or changes: between pages that cannot be touched, now at the one and now at the
- * other, and full of bytes that differ from call to call, since what it holds plays no part. The fourth room from here on is the same again.
+ * Room for a struct that a call is lent for what comes of it, or changes: between pages that cannot be touched, now at
+ * the one and now at the other, and full of bytes that differ from call to call, since what it holds plays no part. The
+ * fourth room from here on is the same again.
  */
 static inline void *room_for(size_t len)
 {

@@ -1,5 +1,5 @@
-/* The calls of the library whose result is lent, for the tests: the room for it is between pages that cannot be touched and holds anything before
-   the call, all of it is filled in, and padding is zero. */
+/* The calls of the library whose result is lent, for the tests: the room for it is between pages that cannot be touched
+   and holds anything before the call, all of it is filled in, and padding is zero. */
 #ifndef BUJORELM_LENT_H
 #define BUJORELM_LENT_H
 

@@ -1,5 +1,5 @@
-/* The calls of the tool's half, whose results are lent, for the tests: the room for one is between pages that cannot be touched and holds anything
-   before the call, all of it is filled in, and padding is zero. */
+/* The calls of the tool's half, whose results are lent, for the tests: the room for one is between pages that cannot be
+   touched and holds anything before the call, all of it is filled in, and padding is zero. */
 #ifndef BUJORELM_TOOL_LENT_H
 #define BUJORELM_TOOL_LENT_H
 
