@@ -26,26 +26,7 @@ void clock_interrupt(void);
 /* A free-running count of milliseconds. The library's tick is its low 16 bits. */
 uint32_t clock_now(void);
 
-/* ---- storage.c: memory that outlasts a power cut ---- */
-
-#define STORAGE_PAGES 8u
-#define STORAGE_PAGE_SIZE 512u
-
-/* Whose the pages are: two of settings.c, and three of numbers.c. */
-#define SETTINGS_PAGE 0u
-#define NUMBERS_PAGE 2u
-
-/* Reads the first bytes of a page. */
-void storage_read(uint32_t page, void *to, size_t len);
-
-/* Writes a page from its start, and waits until it is written. If power fails meanwhile that page may then hold
-   anything, and the others are as they were. False where it does not read as what was written. */
-bool storage_write(uint32_t page, const void *from, size_t len);
-
-/* A check of bytes: CRC-32. */
-uint32_t storage_check(const void *from, size_t len);
-
-/* ---- settings.c: what tools write ---- */
+/* ---- settings.c: what has to outlast a power cut ---- */
 
 #define SETTINGS_SIZE 64u
 
@@ -55,14 +36,5 @@ void settings_load(uint8_t *settings);
 /* Stores all settings. When it is back they outlast a power cut; if power fails before that, those stored last are
    still whole. False where that fails. */
 bool settings_store(const uint8_t *settings);
-
-/* ---- numbers.c: the next event number ---- */
-
-/* The number to go on from at power-up: 0 where none was ever stored, and otherwise above all that were ever sent. */
-uint32_t numbers_load(void);
-
-/* Stores that all numbers below the next one are used. When it is back they may be sent. False where that fails: then
-   they must not. */
-bool numbers_store(uint32_t next);
 
 #endif

@@ -1,9 +1,9 @@
-/* The memory of the machine mps2-an385. A real chip has other numbers here: its flash, its RAM, and for `storage` the
-   pages of flash or the EEPROM that the firmware may write. The start-up code and storage.c use the names below. */
+/* The memory of the machine mps2-an385. A real chip has other numbers here: its flash, its RAM, and for `settings` the pages of flash or the EEPROM
+   that the firmware may write. The start-up code and settings.c use the names at the ends of the lines below. */
 MEMORY {
     flash (rx) : ORIGIN = 0x00000000, LENGTH = 256K
     ram (rw) : ORIGIN = 0x20000000, LENGTH = 8K
-    storage (rw) : ORIGIN = 0x21000000, LENGTH = 4K
+    settings (rw) : ORIGIN = 0x21000000, LENGTH = 4K
 }
 ENTRY(start)
 SECTIONS {
@@ -15,6 +15,6 @@ SECTIONS {
     /* The stack has what is left, and grows down from here. */
     stack_top = ORIGIN(ram) + LENGTH(ram);
     ASSERT(stack_top - bss_end >= 2048, "there is not enough RAM left for the stack")
-    .storage (NOLOAD) : { storage_pages = .; . = . + LENGTH(storage); } > storage
+    .settings (NOLOAD) : { settings_pages = .; . = . + LENGTH(settings); } > settings
     /DISCARD/ : { *(.eh_frame*) }
 }

@@ -1,9 +1,8 @@
 /*
  * A board on the bus: 64 bytes of settings that tools may read and write and that outlast a power cut, a CDI that says
- * what they are, a space with figures about the board itself, and event numbers that are given once each.
+ * what they are, and a space with figures about the board itself.
  *
- * The order for each frame is: handle, store, send. A tool that hears Received OK can rely on what it wrote, and an event
- * number that a tool hears is stored as used.
+ * The order for each frame is: handle, store, send. A tool that hears Received OK can rely on what it wrote.
  */
 #include "board.h"
 #include "can.h"
@@ -47,10 +46,6 @@ static const struct bujorelm_description description = {
     .spaces = spaces,
 };
 
-/* The first six bytes of every event ID that the board gives. Each board that is made needs one of its own: two with
-   the same give the same event IDs. */
-static const uint8_t node_id[6] = {0x05, 0x01, 0x01, 0x01, 0x02, 0x2B};
-
 static struct bujorelm_node node;
 
 static void put_number(uint8_t *at, uint32_t number)
@@ -75,7 +70,6 @@ static void refresh_about(void)
    among them. */
 static void board_receive(const struct bujorelm_frame *frame)
 {
-    const uint32_t next_number = node.registers.next_number;
     const struct bujorelm_result result = bujorelm_node_handle_frame(&node, (uint16_t)clock_now(), frame->header, frame->bytes, frame->len);
 
     if (result.kind == BUJORELM_REFUSED) {
@@ -83,10 +77,6 @@ static void board_receive(const struct bujorelm_frame *frame)
     }
     if (result.kind == BUJORELM_WRITTEN && !settings_store(memory.settings)) {
         /* A tool that hears nothing does not rely on what it wrote. */
-        return;
-    }
-    if (node.registers.next_number != next_number && !numbers_store(node.registers.next_number)) {
-        /* The numbers in the reply are wasted. Sent, they could be sent again after a power cut. */
         return;
     }
     (void)bujorelm_send_frames(node.frames, result.frame_count, can_send, NULL);
@@ -107,15 +97,6 @@ static void board_tick(void)
     }
 }
 
-/* What the library is told once at power-up, and keeps from call to call. */
-static void load_registers(void)
-{
-    for (size_t i = 0; i < sizeof node_id; i++) {
-        node.registers.node_id[i] = node_id[i];
-    }
-    node.registers.next_number = numbers_load();
-}
-
 int main(void)
 {
     if (!bujorelm_version_fits()) {
@@ -123,7 +104,6 @@ int main(void)
     }
     settings_load(memory.settings);
     bujorelm_node_start(&node, &description, (const uint8_t *)cdi, sizeof cdi, (uint8_t *)&memory, sizeof memory);
-    load_registers();
     /* A description that the library refuses shows here, before the first frame: in a debugger by node and this
        place. */
     if (bujorelm_node_check(&node).kind == BUJORELM_REFUSED) {

@@ -64,7 +64,6 @@ static struct {
     struct bujorelm_frame frames[BUJORELM_SENT_MAX];
     struct bujorelm_space spaces[BUJORELM_SPACES_MAX + 1];
     struct bujorelm_carry carry;
-    struct bujorelm_registers registers;
     uint8_t odd;
     uint8_t flash[FLASH_MAX];
     uint8_t memory[MEMORY_MAX];
@@ -73,6 +72,7 @@ static struct {
     uint8_t payload[12];
     uint8_t datagram[BUJORELM_DATAGRAM_MAX + 4];
     uint8_t text[TEXT_MAX];
+    struct bujorelm_registers registers;
     struct bujorelm_reception reception;
     /* Up to here by whole words. */
     uint8_t end[8];
@@ -332,26 +332,12 @@ static void clear_reception(void)
     }
 }
 
-/* Another board's, or the same board's much later: any node ID, and a next number that is often near the end, where
-   asking for 1 to 8 makes a difference, and now and then past it. */
-static void make_registers(void)
-{
-    for (size_t i = 0; i < sizeof lent.registers.node_id; i++) {
-        lent.registers.node_id[i] = random_byte();
-    }
-    if (one_in(12)) {
-        lent.registers.next_number = one_in(2) ? random_word() : BUJORELM_EVENT_NUMBERS + below(3);
-    } else {
-        lent.registers.next_number = one_in(3) ? below(BUJORELM_EVENT_NUMBERS) : BUJORELM_EVENT_NUMBERS - below(20);
-    }
-}
-
 /* ---- Datagrams ---- */
 
 /* A command for one of the board's spaces, near the edges of that space, or any bytes. */
 static size_t make_datagram(uint8_t *d, size_t room)
 {
-    static const uint8_t commands[] = {0x00, 0x08, 0x40, 0x40, 0x80, 0x84, 0x88, 0x8C, 0x8C, 0xA8};
+    static const uint8_t commands[] = {0x00, 0x08, 0x40, 0x40, 0x80, 0x84, 0x88, 0xA8};
     const size_t count = board.spaces;
     const struct bujorelm_space *const space = &lent.spaces[below(count == 0 ? 1 : (uint32_t)count)];
     const uint32_t address = one_in(5) ? near(space->highest) : space->lowest + below((space->highest - space->lowest + 1) & 0xFFFFu);
@@ -388,8 +374,6 @@ static size_t make_datagram(uint8_t *d, size_t room)
         command = (uint8_t)(command + form);
     } else if (command == 0x84) {
         d[len++] = space->number;
-    } else if (command == 0x8C) {
-        d[len++] = random_byte();
     } else if (command == 0x88) {
         for (size_t i = 0; i < 6; i++) {
             d[len++] = (uint8_t)below(3);
@@ -512,7 +496,6 @@ static void batch(void)
         switch (below(40)) {
         case 0:
             make_board();
-            make_registers();
             clear_reception();
             break;
         case 1:
@@ -538,9 +521,6 @@ static void batch(void)
         case 11:
         case 12:
             hand_datagram();
-            break;
-        case 13:
-            make_registers();
             break;
         default:
             send_datagram();

@@ -1,7 +1,7 @@
 /*
  * A plain board in C, as somebody writes it who has the paper and no prover: it looks for the caller's errors, frees
- * what is due, joins frames, reads and writes spaces, gives event numbers, and cuts replies. It has reads, writes, Get
- * Unique ID and rejections, and not the other commands. Numbers are the processor's own: indices have 32 bits there. What it gives is held to what the
+ * what is due, joins frames, reads and writes spaces, and cuts replies. It has reads, writes and rejections, and not
+ * the other commands. Numbers are the processor's own: indices have 32 bits there. What it gives is held to what the
  * library gives (instructions.c).
  */
 #include "plain.h"
@@ -161,47 +161,6 @@ static void reject(uint32_t kind, uint16_t code, uint16_t alias, uint16_t tool, 
     put_transport(frames, 0x19A48000u, alias, tool, rest, 2);
 }
 
-/* Received OK, and then a reply that is in its buffer. */
-static void send_reply(const uint8_t *reply, size_t len, uint16_t alias, uint16_t tool, struct bujorelm_frame *frames, struct bujorelm_result *result)
-{
-    const uint8_t pending[1] = {0x80};
-
-    set_result(result, BUJORELM_REPLIED);
-    result->flags = 0x80;
-    result->reply_len = (uint8_t)len;
-    put_transport(frames, 0x19A28000u, alias, tool, pending, 1);
-    result->frame_count = (uint8_t)(1 + plain_cut(reply, len, alias, tool, frames + 1));
-}
-
-/* Get Unique ID: as many event IDs as it asks for, or none. */
-static void give_ids(uint16_t alias, uint16_t tool, struct bujorelm_registers *registers, const uint8_t *d, size_t len, uint8_t *reply,
-                     struct bujorelm_frame *frames, struct bujorelm_result *result)
-{
-    uint32_t asked;
-    size_t at = 2;
-
-    if (len != 3) {
-        reject(BUJORELM_REJECTED, BUJORELM_CODE_INVALID_ARGUMENTS, alias, tool, frames, result);
-        return;
-    }
-    asked = (d[2] & 7u) == 0 ? 8u : d[2] & 7u;
-    if (asked > BUJORELM_EVENT_NUMBERS - registers->next_number) {
-        reject(BUJORELM_REJECTED, BUJORELM_CODE_PERMANENT, alias, tool, frames, result);
-        return;
-    }
-    reply[0] = 0x20;
-    reply[1] = 0x8D;
-    for (uint32_t i = 0; i < asked; i++) {
-        for (size_t j = 0; j < 6; j++) {
-            reply[at++] = registers->node_id[j];
-        }
-        reply[at++] = (uint8_t)(registers->next_number >> 8);
-        reply[at++] = (uint8_t)registers->next_number;
-        registers->next_number++;
-    }
-    send_reply(reply, at, alias, tool, frames, result);
-}
-
 /* The head of a reply to a read or a write: its command with the reply's bits, the address, and the space where the
    command names it. */
 static void put_head(uint8_t *reply, const uint8_t *d, size_t head, uint8_t bits)
@@ -232,12 +191,12 @@ static const struct bujorelm_space *space_of(const struct bujorelm_space *spaces
     return NULL;
 }
 
-/* A datagram handled: reads and writes here. */
+/* A datagram handled: reads and writes. */
 static void handle(uint16_t alias, uint16_t tool, const struct bujorelm_space *spaces, size_t count, const uint8_t *flash, uint8_t *memory,
-                   struct bujorelm_registers *registers, const uint8_t *d, size_t len, uint8_t *reply, struct bujorelm_frame *frames,
-                   struct bujorelm_result *result)
+                   const uint8_t *d, size_t len, uint8_t *reply, struct bujorelm_frame *frames, struct bujorelm_result *result)
 {
     const uint8_t ok[1] = {0x00};
+    const uint8_t pending[1] = {0x80};
     const struct bujorelm_space *space;
     uint32_t address;
     uint8_t number;
@@ -251,10 +210,6 @@ static void handle(uint16_t alias, uint16_t tool, const struct bujorelm_space *s
     }
     if (d[0] != 0x20) {
         reject(BUJORELM_REJECTED, BUJORELM_CODE_UNKNOWN_DATAGRAM_TYPE, alias, tool, frames, result);
-        return;
-    }
-    if (d[1] == 0x8C) {
-        give_ids(alias, tool, registers, d, len, reply, frames, result);
         return;
     }
     writes = d[1] < 4;
@@ -300,7 +255,11 @@ static void handle(uint16_t alias, uint16_t tool, const struct bujorelm_space *s
         }
         replied = head + n;
     }
-    send_reply(reply, replied, alias, tool, frames, result);
+    set_result(result, BUJORELM_REPLIED);
+    result->flags = 0x80;
+    result->reply_len = (uint8_t)replied;
+    put_transport(frames, 0x19A28000u, alias, tool, pending, 1);
+    result->frame_count = (uint8_t)(1 + plain_cut(reply, replied, alias, tool, frames + 1));
 }
 
 static void hold(struct bujorelm_place *place, uint16_t source, size_t len, uint16_t tick)
@@ -309,9 +268,9 @@ static void hold(struct bujorelm_place *place, uint16_t source, size_t len, uint
 }
 
 void plain_handle_frame(uint16_t alias, uint8_t write_lengths, const struct bujorelm_space *spaces, size_t count, const uint8_t *flash,
-                        size_t flash_len, uint8_t *memory, size_t memory_len, struct bujorelm_registers *registers, uint8_t *pool,
-                        struct bujorelm_place *places, uint16_t tick, uint32_t header, const uint8_t *payload, size_t payload_len,
-                        uint8_t *reply, size_t reply_len, struct bujorelm_frame *frames, struct bujorelm_result *result)
+                        size_t flash_len, uint8_t *memory, size_t memory_len, uint8_t *pool, struct bujorelm_place *places, uint16_t tick,
+                        uint32_t header, const uint8_t *payload, size_t payload_len, uint8_t *reply, size_t reply_len,
+                        struct bujorelm_frame *frames, struct bujorelm_result *result)
 {
     const uint16_t source = (uint16_t)(header & 0xFFFu);
     const uint32_t sort = header >> 24;
@@ -338,9 +297,6 @@ void plain_handle_frame(uint16_t alias, uint8_t write_lengths, const struct bujo
     if (error == 0 && !places_are_sound(places)) {
         error = BUJORELM_ERROR_B7_BAD_RECEPTION_STATE;
     }
-    if (error == 0 && registers->next_number > BUJORELM_EVENT_NUMBERS) {
-        error = BUJORELM_ERROR_B10_NEXT_NUMBER_TOO_HIGH;
-    }
     if (error != 0) {
         refuse(result, error, position);
         return;
@@ -352,7 +308,7 @@ void plain_handle_frame(uint16_t alias, uint8_t write_lengths, const struct bujo
     }
     place = place_of(places, source);
     if (sort == 0x1A && place == NONE) {
-        handle(alias, source, spaces, count, flash, memory, registers, payload, payload_len, reply, frames, result);
+        handle(alias, source, spaces, count, flash, memory, payload, payload_len, reply, frames, result);
         return;
     }
     if (sort == 0x1B && place == NONE) {
@@ -390,5 +346,5 @@ void plain_handle_frame(uint16_t alias, uint8_t write_lengths, const struct bujo
         return;
     }
     free_place(&places[place]);
-    handle(alias, source, spaces, count, flash, memory, registers, pool + 72 * place, len, reply, frames, result);
+    handle(alias, source, spaces, count, flash, memory, pool + 72 * place, len, reply, frames, result);
 }

@@ -1,5 +1,4 @@
-/* The demonstration board of document 01: its description, its flash, the size of its memory, and its registers at the first power-up, which
-   are from C-17 of document 02. */
+/* The demonstration board of document 01: its description, its flash and the size of its memory. */
 #ifndef BUJORELM_DEMONSTRATION_H
 #define BUJORELM_DEMONSTRATION_H
 
@@ -22,12 +21,6 @@ static const struct bujorelm_description demonstration_description = {
     .write_lengths = 0xF2,
     .count = DEMONSTRATION_SPACES,
     .spaces = demonstration_spaces,
-};
-
-static const struct bujorelm_registers demonstration_registers = {
-    .lock = {0},
-    .node_id = {0x05, 0x01, 0x01, 0x01, 0x02, 0x2B},
-    .next_number = 0,
 };
 
 #endif

@@ -22,9 +22,6 @@
  * which nothing has come for more than 3 seconds is dropped. A frame's tick is that of the moment at which the board is given the frame, and
  * while no frame comes the board is given a lone tick once a second.
  *
- * Nothing is kept when the program ends. Each time it starts, the board is as at its first power-up: memory is zero, and the event numbers begin
- * with 0.
- *
  * Where the library refuses the board, a sentence on standard error says why, and at the start the program ends: the demonstration board is a
  * good one, and another that is put in its place may not be.
  */
@@ -153,7 +150,6 @@ static void board_start(struct board *board)
     memset(board->memory, 0, sizeof board->memory);
     bujorelm_node_start(&board->node, &demonstration_description, demonstration_flash, sizeof demonstration_flash, board->memory,
                         sizeof board->memory);
-    board->node.registers = demonstration_registers;
     board->last = now();
     if (is_refused(bujorelm_node_check(&board->node))) {
         exit(EXIT_FAILURE);

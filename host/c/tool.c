@@ -31,7 +31,6 @@ static const char help[] =
     "  options                           asks what the board can do\n"
     "  lock ID                           locks the board for the node ID, as 05.01.01.01.18.AB or 0501010118AB\n"
     "  release                           releases the lock, whoever holds it\n"
-    "  events COUNT                      asks for 1 to 8 event IDs, which the board gives to nobody else\n"
     "  done                              Update Complete: tells the board that all is written\n"
     "\n"
     "Numbers are decimal, or hex behind 0x. Lines that are blank or begin with # are passed over.\n"

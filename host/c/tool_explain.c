@@ -6,7 +6,6 @@
 #include <string.h>
 
 #define ROW 16u
-#define EVENT_ID_SIZE 8u
 
 static bool is_printable(uint8_t byte)
 {
@@ -20,15 +19,6 @@ static void print_hex(const uint8_t *bytes, size_t len)
     for (size_t i = 0; i < len; i++) {
         printf(" %02X", bytes[i]);
     }
-}
-
-/* An ID as people write it: bytes in hex digits, with a dot between each two. */
-static void print_id(const uint8_t *id, size_t len)
-{
-    for (size_t i = 0; i < len; i++) {
-        printf(i == 0 ? "%02X" : ".%02X", id[i]);
-    }
-    putchar('\n');
 }
 
 /* A row of at most 16 bytes of memory: the address of the first, all in hex, and as text, with a dot for what cannot be printed. */
@@ -152,10 +142,6 @@ static bool explain_rejected(const struct answer *answer)
     fputs("Rejected: ", stdout);
     print_code(read.code);
     putchar('\n');
-    if (read.code == BUJORELM_CODE_PERMANENT) {
-        /* The code has a meaning for one command, and a Rejected does not say which command it is for. */
-        puts("  where event IDs were asked for: fewer are left than that");
-    }
     if (read.further.len != 0) {
         fputs("  behind the code:", stdout);
         print_hex(answer->bytes + read.further.start, read.further.len);
@@ -165,13 +151,6 @@ static bool explain_rejected(const struct answer *answer)
 }
 
 /* ---- Reply datagrams ---- */
-
-static void explain_read(const uint8_t *datagram, const struct bujorelm_reply *reply)
-{
-    printf("%zu byte%s from address 0x%08lX of space 0x%02X:\n", (size_t)reply->bytes.len, reply->bytes.len == 1 ? "" : "s",
-           (unsigned long)reply->address, reply->space);
-    print_memory(reply->address, datagram + reply->bytes.start, reply->bytes.len);
-}
 
 static void explain_failure(const char *what, const uint8_t *datagram, const struct bujorelm_reply *reply)
 {
@@ -242,38 +221,32 @@ static bool explain_lock(const uint8_t *holder, const uint8_t *id)
     const bool as_asked = id != NULL && memcmp(holder, id, sizeof nobody) == 0;
 
     if (held) {
-        printf("The lock is held by %s", as_asked ? "you, " : id != NULL ? "another, " : "");
-        print_id(holder, sizeof nobody);
+        printf("The lock is held by %s%02X.%02X.%02X.%02X.%02X.%02X\n", as_asked ? "you, " : id != NULL ? "another, " : "", holder[0],
+               holder[1], holder[2], holder[3], holder[4], holder[5]);
     } else {
         puts("Nobody holds the lock");
     }
     return id == NULL || as_asked;
 }
 
-/* The event IDs that the board has given, each on a line of its own. */
-static void explain_unique_ids(const uint8_t *ids, size_t len)
-{
-    printf("%zu event ID%s that nobody else gets:\n", len / EVENT_ID_SIZE, len == EVENT_ID_SIZE ? "" : "s");
-    for (size_t at = 0; at < len; at += EVENT_ID_SIZE) {
-        fputs("  ", stdout);
-        print_id(ids + at, EVENT_ID_SIZE);
-    }
-}
-
 static bool explain_datagram(const struct answer *answer, const uint8_t *id)
 {
     struct bujorelm_reply reply;
+    unsigned long address;
 
     bujorelm_read_reply(answer->bytes, answer->len, &reply);
+    address = reply.address;
     switch (reply.kind) {
     case BUJORELM_REPLY_READ:
-        explain_read(answer->bytes, &reply);
+        printf("%zu byte%s from address 0x%08lX of space 0x%02X:\n", (size_t)reply.bytes.len, reply.bytes.len == 1 ? "" : "s", address,
+               reply.space);
+        print_memory(reply.address, answer->bytes + reply.bytes.start, reply.bytes.len);
         return true;
     case BUJORELM_REPLY_READ_FAILURE:
         explain_failure("read from", answer->bytes, &reply);
         return false;
     case BUJORELM_REPLY_WRITTEN:
-        printf("The write to address 0x%08lX of space 0x%02X is done\n", (unsigned long)reply.address, reply.space);
+        printf("The write to address 0x%08lX of space 0x%02X is done\n", address, reply.space);
         return true;
     case BUJORELM_REPLY_WRITE_FAILURE:
         explain_failure("write to", answer->bytes, &reply);
@@ -286,9 +259,6 @@ static bool explain_datagram(const struct answer *answer, const uint8_t *id)
         return true;
     case BUJORELM_REPLY_LOCK:
         return explain_lock(answer->bytes + reply.bytes.start, id);
-    case BUJORELM_REPLY_UNIQUE_IDS:
-        explain_unique_ids(answer->bytes + reply.bytes.start, reply.bytes.len);
-        return true;
     case BUJORELM_REPLY_NONE:
     default:
         printf("W3: a datagram of %zu bytes in no form of a reply:", answer->len);

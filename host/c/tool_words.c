@@ -206,18 +206,6 @@ static bool compose_release(const struct words *words, struct command *command)
     return is_composed(words, command, &composed, "", 0);
 }
 
-static bool compose_unique_ids(const struct words *words, struct command *command)
-{
-    struct bujorelm_composed composed;
-    uint64_t count;
-
-    if (!read_number(words, "COUNT", words->word[1], 0, SIZE_MAX, &count)) {
-        return false;
-    }
-    bujorelm_compose_unique_ids(count, command->datagram, sizeof command->datagram, &composed);
-    return is_composed(words, command, &composed, "1 to 8 event IDs are asked for at once", (size_t)count);
-}
-
 static bool compose_update_complete(const struct words *words, struct command *command)
 {
     struct bujorelm_composed composed;
@@ -242,7 +230,6 @@ static const struct {
     {"options", "no words", 0, 0, COMMAND_OPTIONS, compose_options},
     {"lock", "ID", 1, 1, COMMAND_LOCK, compose_lock},
     {"release", "no words", 0, 0, COMMAND_LOCK, compose_release},
-    {"events", "COUNT", 1, 1, COMMAND_UNIQUE_IDS, compose_unique_ids},
     {"done", "no words", 0, 0, COMMAND_UPDATE_COMPLETE, compose_update_complete},
 };
 
@@ -289,9 +276,6 @@ bool is_reply_to(const struct command *command, const struct bujorelm_reply *rep
         return command->kind == COMMAND_INFORMATION && reply->space == command->space;
     case BUJORELM_REPLY_LOCK:
         return command->kind == COMMAND_LOCK;
-    case BUJORELM_REPLY_UNIQUE_IDS:
-        /* However many they are, nobody else gets them. */
-        return command->kind == COMMAND_UNIQUE_IDS;
     case BUJORELM_REPLY_NONE:
     default:
         return false;

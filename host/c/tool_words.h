@@ -10,15 +10,7 @@
 #define ID_SIZE 6u
 
 /* What a board may answer to a command: a masked write is answered as a write is, and a release as a lock is. */
-enum command_kind {
-    COMMAND_READ,
-    COMMAND_WRITE,
-    COMMAND_OPTIONS,
-    COMMAND_INFORMATION,
-    COMMAND_LOCK,
-    COMMAND_UNIQUE_IDS,
-    COMMAND_UPDATE_COMPLETE
-};
+enum command_kind { COMMAND_READ, COMMAND_WRITE, COMMAND_OPTIONS, COMMAND_INFORMATION, COMMAND_LOCK, COMMAND_UPDATE_COMPLETE };
 
 /* Words, and the line of standard input that they are from; 0 where they are from the command line. */
 struct words {

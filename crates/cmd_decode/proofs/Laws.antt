@@ -9,15 +9,15 @@ use native.Mathlib.Omega.{arith}
 use lib.Dec.{leb, ltb, eqb}
 use lib.ListN.{length, get_or, drop, length-drop}
 use lib.Seq.{get_or-drop}
-use borrow.Author.Tests.{eq-eqb, ne_eqb, lt-ltb, le-ltb, le-leb, leb-true, eqb-true, eqb-false}
+use borrow.Author.Tests.{eq-eqb, ne_eqb, lt-ltb, le-ltb, le-leb, leb-true, eqb-true}
 use Rattle.buffer.proofs.Choice.{cond-elim, cond_map, and_left, and_right}
-use Rattle.cmd_fields.specs.Commands.{Request, read, write, write_masked, options, information, reserve, unique_ids, update_complete, pairs_of, within, kind_of_command, form_in, head_length, space_of, address_of, rest_of}
+use Rattle.cmd_fields.specs.Commands.{Request, read, write, write_masked, options, information, reserve, update_complete, pairs_of, within, kind_of_command, form_in, head_length, space_of, address_of, rest_of}
 use Rattle.cmd_decode.specs.Decoding.{Reading, rejected, request, or_wrong, count_of, decode_read, decode_write, decode_masked, decode_kind, decode, request_of, reading_of, of_fixed_length}
-use Rattle.cmd_limits.specs.Limits.{count_in, count_fits, bytes_fit, pairs_fit, ids_asked}
+use Rattle.cmd_limits.specs.Limits.{count_in, count_fits, bytes_fit, pairs_fit}
 use Rattle.cmd_fields.specs.declared.Form.{Form}
 use Rattle.cmd_fields.specs.declared.Form.TheVariants.{NoSpace}
 use Rattle.cmd_fields.specs.declared.Kind.{Kind}
-use Rattle.cmd_fields.specs.declared.Kind.TheVariants.{Read, Write, WriteMasked, Options, Information, Lock, UniqueIds, UpdateComplete, Unknown}
+use Rattle.cmd_fields.specs.declared.Kind.TheVariants.{Read, Write, WriteMasked, Options, Information, Lock, UpdateComplete, Unknown}
 use Rattle.cmd_decode.specs.declared.Command.{Command}
 use Rattle.cmd_decode.specs.declared.Decoded.TheVariants.{Rejected, Accepted}
 use Rattle.cmd_fields.proofs.Laws.{rest-is, pairs-length}
@@ -30,7 +30,6 @@ Locks c WriteMasked = Unit {0}
 Locks c Options = Unit {0}
 Locks c Information = Unit {0}
 Locks c Lock = 0x80 ≤ c
-Locks c UniqueIds = Unit {0}
 Locks c UpdateComplete = Unit {0}
 Locks c Unknown = Unit {0}
 
@@ -43,8 +42,7 @@ locks c =
     (λ _. cond-elim (Locks c) (eqb c 0x80) (λ _. tt)
     (λ _. cond-elim (Locks c) (eqb c 0x84) (λ _. tt)
     (λ _. cond-elim (Locks c) (eqb c 0x88) (λ e. omega (arith, eqb-true c 0x88 e))
-    (λ _. cond-elim (Locks c) (eqb c 0x8C) (λ _. tt)
-    (λ _. cond-elim (Locks c) (eqb c 0xA8) (λ _. tt) (λ _. tt))))))))
+    (λ _. cond-elim (Locks c) (eqb c 0xA8) (λ _. tt) (λ _. tt)))))))
 
 -- the kind that the code finds, by the steps of its finding
 pub is-kind : {b c : ℕ} {k m : Kind} → b ≡ c → k ≡ kind_of_command b → k ≡ m → kind_of_command c ≡ m
@@ -145,7 +143,6 @@ Allowed (write_masked s a pairs) = (1 ≤ length pairs) × (length pairs ≤ 32)
 Allowed options = Unit {0}
 Allowed (information s) = Unit {0}
 Allowed (reserve id) = length id ≡ 6
-Allowed (unique_ids n) = (1 ≤ n) × (n ≤ 8)
 Allowed update_complete = Unit {0}
 
 abbrev pub AllowedIn : Reading → Type 0
@@ -167,12 +164,6 @@ or_wrong-allowed t f q g = cond-elim AllowedIn t g (λ _. tt)
 within-true : (low high c : ℕ) → within low high c ≡ true → (low ≤ c) × (c ≤ high)
 within-true low high c e = (leb-true low c (and_left (leb low c) _ e), leb-true c high (and_right (leb low c) _ e))
 
--- zero asks for eight, and so no request asks for none
-asked_some : (byte : ℕ) → (1 ≤ ids_asked byte) × (ids_asked byte ≤ 8)
-asked_some byte =
-    cond-elim (λ (n : ℕ). (1 ≤ n) × (n ≤ 8)) (eqb (byte % 8) 0) (λ _. (omega arith, omega arith))
-    (λ e. (omega (arith, eqb-false (byte % 8) 0 e), omega arith))
-
 kind-allowed : (k : Kind) (d : List ℕ) → AllowedIn (decode_kind k d)
 unfolding decode_kind decode_read decode_write decode_masked
 kind-allowed Read d = or_wrong-allowed (eqb (length (rest_of d)) 1 && count_fits (count_of d)) _ (read (space_of (form_in d) d) (address_of d) (count_of d)) (λ e.
@@ -186,7 +177,6 @@ kind-allowed WriteMasked d = or_wrong-allowed (pairs_fit (length (rest_of d))) _
 kind-allowed Options d = or_wrong-allowed (eqb (length d) 2) NoSpace options (λ _. tt)
 kind-allowed Information d = or_wrong-allowed (eqb (length d) 3) NoSpace (information (get_or d 2 0)) (λ _. tt)
 kind-allowed Lock d = or_wrong-allowed (eqb (length d) 8) NoSpace (reserve (drop 2 d)) (λ e. length-drop 2 d ∙ (let l = eqb-true (length d) 8 e in omega arith))
-kind-allowed UniqueIds d = or_wrong-allowed (eqb (length d) 3) NoSpace (unique_ids (ids_asked (get_or d 2 0))) (λ _. asked_some (get_or d 2 0))
 kind-allowed UpdateComplete d = or_wrong-allowed (eqb (length d) 2) NoSpace update_complete (λ _. tt)
 kind-allowed Unknown d = tt
 

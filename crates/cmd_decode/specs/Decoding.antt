@@ -1,12 +1,12 @@
--- Document 01, "Refused because of the input", with C-17 of document 02: the codes sent as Rejected, in their order; and
--- what a datagram asks for where none applies.
+-- Document 01, "Refused because of the input", the codes sent as Rejected, in their order; and what a datagram asks for
+-- where none applies.
 use Rattle.std.specs.Prelude.{ℕ, Bool, cond, not, ◌&&◌, ◌||◌, List, ltb, eqb, length, get_or, drop}
-use Rattle.cmd_fields.specs.Commands.{Request, read, write, write_masked, options, information, reserve, unique_ids, update_complete, pairs_of, kind_of_command, form_in, space_of, address_of, rest_of}
-use Rattle.cmd_limits.specs.Limits.{count_in, count_fits, bytes_fit, pairs_fit, ids_asked}
+use Rattle.cmd_fields.specs.Commands.{Request, read, write, write_masked, options, information, reserve, update_complete, pairs_of, kind_of_command, form_in, space_of, address_of, rest_of}
+use Rattle.cmd_limits.specs.Limits.{count_in, count_fits, bytes_fit, pairs_fit}
 use Rattle.cmd_fields.specs.declared.Form.{Form}
 use Rattle.cmd_fields.specs.declared.Form.TheVariants.{NoSpace}
 use Rattle.cmd_fields.specs.declared.Kind.{Kind}
-use Rattle.cmd_fields.specs.declared.Kind.TheVariants.{Read, Write, WriteMasked, Options, Information, Lock, UniqueIds, UpdateComplete, Unknown}
+use Rattle.cmd_fields.specs.declared.Kind.TheVariants.{Read, Write, WriteMasked, Options, Information, Lock, UpdateComplete, Unknown}
 use Rattle.cmd_decode.specs.declared.Command.{Command}
 use Rattle.cmd_decode.specs.declared.Command.TheVariants as command
 use Rattle.cmd_decode.specs.declared.Decoded.{Decoded}
@@ -42,8 +42,7 @@ decode_masked d =
     or_wrong (pairs_fit (length (rest_of d)))
     (request (form_in d) (write_masked (space_of (form_in d) d) (address_of d) (pairs_of (rest_of d))))
 
--- "0x80, two bytes long", "0x84, three bytes", "0x88, eight bytes", "0xA8, two bytes"; "Command 0x8C is three bytes long";
--- "0x1041 unknown command"
+-- "0x80, two bytes long", "0x84, three bytes", "0x88, eight bytes", "0xA8, two bytes"; "0x1041 unknown command"
 unfoldable pub decode_kind : Kind → List ℕ → Reading
 decode_kind Read d = decode_read d
 decode_kind Write d = decode_write d
@@ -51,7 +50,6 @@ decode_kind WriteMasked d = decode_masked d
 decode_kind Options d = or_wrong (eqb (length d) 2) (request NoSpace options)
 decode_kind Information d = or_wrong (eqb (length d) 3) (request NoSpace (information (get_or d 2 0)))
 decode_kind Lock d = or_wrong (eqb (length d) 8) (request NoSpace (reserve (drop 2 d)))
-decode_kind UniqueIds d = or_wrong (eqb (length d) 3) (request NoSpace (unique_ids (ids_asked (get_or d 2 0))))
 decode_kind UpdateComplete d = or_wrong (eqb (length d) 2) (request NoSpace update_complete)
 decode_kind Unknown d = rejected 0x1041
 
@@ -74,7 +72,6 @@ request_of (command.WriteMasked s a) rest = write_masked s a (pairs_of rest)
 request_of command.Options rest = options
 request_of (command.Information s) rest = information s
 request_of command.Lock rest = reserve rest
-request_of (command.UniqueIds n) rest = unique_ids n
 request_of command.UpdateComplete rest = update_complete
 
 abbrev pub reading_of : Decoded → List ℕ → Reading

@@ -1,7 +1,6 @@
 // A datagram read as a request, apart from any board.
 ghost use Rattle.std.specs.Prelude.{◌≡◌, get_or};
 ghost use Rattle.cmd_fields.specs.Commands.{kind_of_command};
-ghost use Rattle.cmd_limits.specs.Limits.{ids_asked};
 ghost use Rattle.cmd_decode.specs.Decoding.{decode, reading_of, decode_kind, decode_read, decode_write, decode_masked, of_fixed_length};
 
 use cmd_fields::{Form, Kind};
@@ -29,7 +28,6 @@ pub enum Command {
     Options,
     Information { space: u8 },
     Lock,
-    UniqueIds { count: u8 },
     UpdateComplete,
 }
 
@@ -130,17 +128,6 @@ fn decode_information(datagram: &[u8]) -> Decoded
     Decoded::Accepted(Form::NoSpace, Command::Information { space: space })
 }
 
-// Get Unique ID: three bytes, the last asking for so many.
-fn decode_unique_ids(datagram: &[u8]) -> Decoded
-    ensures { result ≡ of_fixed_length 3 datagram.now (Command.UniqueIds (ids_asked (get_or datagram.now 2 0))) }
-{
-    if datagram.len() != 3 {
-        return Decoded::Rejected(INVALID_ARGUMENTS);
-    }
-    let count = cmd_limits::ids_asked(datagram[2]);
-    Decoded::Accepted(Form::NoSpace, Command::UniqueIds { count: count })
-}
-
 // A datagram by the kind of its command.
 fn decode_kind(datagram: &[u8]) -> Decoded
     ensures { reading_of result datagram.now ≡ decode_kind (kind_of_command (get_or datagram.now 1 0)) datagram.now }
@@ -152,7 +139,6 @@ fn decode_kind(datagram: &[u8]) -> Decoded
         Kind::Options => of_length(datagram, 2, Command::Options),
         Kind::Information => decode_information(datagram),
         Kind::Lock => of_length(datagram, 8, Command::Lock),
-        Kind::UniqueIds => decode_unique_ids(datagram),
         Kind::UpdateComplete => of_length(datagram, 2, Command::UpdateComplete),
         Kind::Unknown => Decoded::Rejected(UNKNOWN_COMMAND),
     }

@@ -39,11 +39,11 @@ module _ (c : ℕ) where
   unfolding kind_of_command
   is-masked p q = rw (not_within 0x40 0x43 c (λ a b. omega arith), not_within 0x00 0x03 c (λ a b. omega arith), is_within 0x08 0x0B c p q)
 
-  pub is-unknown : (0x40 ≤ c → c ≤ 0x43 → ⊥) → (c ≤ 0x03 → ⊥) → (0x08 ≤ c → c ≤ 0x0B → ⊥) → (c ≡ 0x80 → ⊥) → (c ≡ 0x84 → ⊥) → (c ≡ 0x88 → ⊥) → (c ≡ 0x8C → ⊥) → (c ≡ 0xA8 → ⊥) →
+  pub is-unknown : (0x40 ≤ c → c ≤ 0x43 → ⊥) → (c ≤ 0x03 → ⊥) → (0x08 ≤ c → c ≤ 0x0B → ⊥) → (c ≡ 0x80 → ⊥) → (c ≡ 0x84 → ⊥) → (c ≡ 0x88 → ⊥) → (c ≡ 0xA8 → ⊥) →
       kind_of_command c ≡ Unknown
   unfolding kind_of_command
-  is-unknown r w m a b d i e =
-      rw (not_within 0x40 0x43 c r, not_within 0x00 0x03 c (λ p. w), not_within 0x08 0x0B c m, ne_eqb c 0x80 a, ne_eqb c 0x84 b, ne_eqb c 0x88 d, ne_eqb c 0x8C i, ne_eqb c 0xA8 e)
+  is-unknown r w m a b d e =
+      rw (not_within 0x40 0x43 c r, not_within 0x00 0x03 c (λ p. w), not_within 0x08 0x0B c m, ne_eqb c 0x80 a, ne_eqb c 0x84 b, ne_eqb c 0x88 d, ne_eqb c 0xA8 e)
 
 -- ---- the remaining bytes, and the number of the space
 

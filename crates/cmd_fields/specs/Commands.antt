@@ -1,10 +1,10 @@
--- Document 01, "Commands", and C-17 of document 02: the fields of a datagram, and the requests that it can make.
+-- Document 01, "Commands": the fields of a datagram, and the requests that it can make.
 use Rattle.std.specs.Prelude.{ℕ, ◌+◌, ◌*◌, ◌/◌, ◌%◌, ◌≡◌, Bool, cond, ◌&&◌, List, [], ◌∷◌, ◌++◌, leb, eqb, get_or, drop}
 use Rattle.buffer.specs.BigEndian.{number_of, bytes_of}
 use Rattle.cmd_fields.specs.declared.Form.{Form}
 use Rattle.cmd_fields.specs.declared.Form.TheVariants.{NoSpace, Byte6, Fd, Fe, Ff}
 use Rattle.cmd_fields.specs.declared.Kind.{Kind}
-use Rattle.cmd_fields.specs.declared.Kind.TheVariants.{Read, Write, WriteMasked, Options, Information, Lock, UniqueIds, UpdateComplete, Unknown}
+use Rattle.cmd_fields.specs.declared.Kind.TheVariants.{Read, Write, WriteMasked, Options, Information, Lock, UpdateComplete, Unknown}
 
 -- "pairs (mask, data)"
 pub record Pair : Type 0 where
@@ -27,14 +27,13 @@ pub data Request : Type 0 where
   options : Request
   information : (space : ℕ) → Request
   reserve : (id : List ℕ) → Request
-  unique_ids : (count : ℕ) → Request
   update_complete : Request
 
 -- A number in a range, both ends included.
 abbrev pub within : ℕ → ℕ → ℕ → Bool
 within low high c = leb low c && leb c high
 
--- "Read 0x40–0x43", "Write 0x00–0x03", "Masked write 0x08–0x0B", 0x80, 0x84, 0x88, 0xA8; "Command 0x8C" of C-17.
+-- "Read 0x40–0x43", "Write 0x00–0x03", "Masked write 0x08–0x0B", 0x80, 0x84, 0x88, 0xA8.
 -- "All other commands, replies among them, are unknown."
 unfoldable pub kind_of_command : ℕ → Kind
 kind_of_command c =
@@ -44,8 +43,7 @@ kind_of_command c =
     (cond (eqb c 0x80) Options
     (cond (eqb c 0x84) Information
     (cond (eqb c 0x88) Lock
-    (cond (eqb c 0x8C) UniqueIds
-    (cond (eqb c 0xA8) UpdateComplete Unknown)))))))
+    (cond (eqb c 0xA8) UpdateComplete Unknown))))))
 
 -- "In read, write and masked write the low two bits of byte 1 choose the space: 0 means byte 6,
 -- and 1, 2, 3 mean 0xFD, 0xFE, 0xFF with no byte 6." The commands from 0x80 on have no such bits.

@@ -21,7 +21,6 @@ pub enum Kind {
     Options,
     Information,
     Lock,
-    UniqueIds,
     UpdateComplete,
     Unknown,
 }
@@ -36,7 +35,6 @@ pub fn kind_of(command: u8) -> Kind
         0x80 => Kind::Options,
         0x84 => Kind::Information,
         0x88 => Kind::Lock,
-        0x8C => Kind::UniqueIds,
         0xA8 => Kind::UpdateComplete,
         _ => Kind::Unknown,
     }

@@ -1,6 +1,6 @@
 // The limits of a request's count and lengths, by numbers alone.
 ghost use Rattle.std.specs.Prelude.{◌≡◌};
-ghost use Rattle.cmd_limits.specs.Limits.{count_in, count_fits, bytes_fit, pairs_fit, ids_asked, ids_fit};
+ghost use Rattle.cmd_limits.specs.Limits.{count_in, count_fits, bytes_fit, pairs_fit};
 
 // The count in a read's count byte, whose top bit is ignored.
 pub fn count_in(byte: u8) -> u8
@@ -40,25 +40,4 @@ pub fn pairs_fit(n: usize) -> bool
         return false;
     }
     n % 2 == 0
-}
-
-// How many unique IDs byte 2 of a Get Unique ID asks for: its low three bits, where zero stands for 8.
-pub fn ids_asked(byte: u8) -> u8
-    ensures { result ≡ ids_asked byte }
-{
-    let low = byte % 8;
-    if low == 0 {
-        return 8;
-    }
-    low
-}
-
-// Whether so many unique IDs can be asked for: 1 to 8.
-pub fn ids_fit(n: usize) -> bool
-    ensures { result ≡ ids_fit n }
-{
-    if n == 0 {
-        return false;
-    }
-    n <= 8
 }

@@ -1,17 +1,16 @@
 -- What a request does. Its reply is given by the fields.
-use Rattle.std.specs.Prelude.{ℕ, ◌≡◌, true, false, cond, List, length}
+use Rattle.std.specs.Prelude.{ℕ, ◌≡◌, true, false, List, length}
 use Rattle.space_lookup.specs.Description.{find_space}
 use Rattle.space_table.specs.declared.Space.{Space}
 use Rattle.space_lookup.specs.declared.Found.{Found}
-use Rattle.cmd_fields.specs.Commands.{Request, read, write, write_masked, options, information, reserve, unique_ids, update_complete}
+use Rattle.cmd_fields.specs.Commands.{Request, read, write, write_masked, options, information, reserve, update_complete}
 use Rattle.cmd_fields.specs.declared.Form.{Form}
-use Rattle.exec_registers.specs.Registers.{Registers, with_lock, with_next_number}
+use Rattle.exec_registers.specs.Registers.{Registers, with_lock}
 use Rattle.exec_lock.specs.Lock.{test_and_set}
-use Rattle.exec_unique_ids.specs.UniqueIds.{are_left, ids_result, ids_given}
 use Rattle.reply_spec.specs.ReplyForms.{Reply}
 use Rattle.reply_datagram.specs.Replies.{lock_reply, in_bytes}
 use Rattle.reply_datagram.specs.Inquiry.{options_reply, information_reply}
-use Rattle.reply_answer.specs.Answers.{Answered, Result, update_completed, received_ok_reply, answer_of, ok_flags, rejected_code, transport_of, Agrees}
+use Rattle.reply_answer.specs.Answers.{Answered, Result, update_completed, received_ok_reply, answer_of, ok_flags, transport_of, Agrees}
 use Rattle.reply_answer.specs.declared.Answer.{Answer}
 use Rattle.space_reach.specs.Reach.{access}
 use Rattle.exec_store.specs.Storing.{store_bytes, store_masked}
@@ -28,7 +27,7 @@ pub record Fixed : Type 0 where
 abbrev pub fixed : ℕ → ℕ → List Space → List ℕ → Fixed
 fixed alias write_lengths spaces flash = record { alias = alias; write_lengths = write_lengths; spaces = spaces; flash = flash }
 
--- What a datagram may change: memory, and the registers: the lock memory and the next event number.
+-- What a datagram may change: memory, and the registers, of which the lock memory is one.
 pub record Contents : Type 0 where
   pub memory : List ℕ
   pub registers : Registers
@@ -72,10 +71,6 @@ lock_outcome c id =
     let left = lock_tested c.registers id in
     outcome (received_ok_reply (lock_reply left.lock)) (contents c.memory left)
 
--- "0x8C": memory stays, and of the registers all but the next number.
-abbrev pub ids_outcome : Contents → ℕ → OutcomeBy Reply
-ids_outcome c n = outcome (ids_result c.registers n) (contents c.memory (ids_given c.registers n))
-
 unfoldable pub perform : Fixed → Contents → Form → Request → OutcomeBy Reply
 perform x c form (read space address count) =
     outcome (read_result x.flash c.memory form space address count (access false (found_in x space) address 1)) c
@@ -84,30 +79,26 @@ perform x c form (write_masked space address pairs) = write_outcome (store_maske
 perform x c form options = outcome (received_ok_reply (options_reply x.write_lengths x.spaces)) c
 perform x c form (information space) = outcome (received_ok_reply (information_reply space (found_in x space))) c
 perform x c form (reserve id) = lock_outcome c id
-perform x c form (unique_ids count) = ids_outcome c count
 perform x c form update_complete = outcome update_completed c
 
 -- A read is answered with "Received OK 0x80, then a reply", and "0x80, 0x84 and 0x88 answer Received OK 0x80 before the
--- reply": no board that sends Received OK 0x00 to all does. 0x8C answers so where enough numbers are left, and "the
--- datagram is Rejected with 0x1000" where not. 0xA8 has an answer of its own, which is no write's.
-abbrev pub Announced : Contents → Request → Result → Type 0
-Announced c (read space address count) r = transport_of (answer_of r) ≡ ok_flags 0x80
-Announced c (write space address bytes) r = Unit {0}
-Announced c (write_masked space address pairs) r = Unit {0}
-Announced c options r = transport_of (answer_of r) ≡ ok_flags 0x80
-Announced c (information space) r = transport_of (answer_of r) ≡ ok_flags 0x80
-Announced c (reserve id) r = transport_of (answer_of r) ≡ ok_flags 0x80
-Announced c (unique_ids count) r =
-    transport_of (answer_of r) ≡ cond (are_left c.registers count) (ok_flags 0x80) (rejected_code 0x1000)
-Announced c update_complete r = r ≡ update_completed
+-- reply": no board that sends Received OK 0x00 to all does. 0xA8 has an answer of its own, which is no write's.
+abbrev pub Announced : Request → Result → Type 0
+Announced (read space address count) r = transport_of (answer_of r) ≡ ok_flags 0x80
+Announced (write space address bytes) r = Unit {0}
+Announced (write_masked space address pairs) r = Unit {0}
+Announced options r = transport_of (answer_of r) ≡ ok_flags 0x80
+Announced (information space) r = transport_of (answer_of r) ≡ ok_flags 0x80
+Announced (reserve id) r = transport_of (answer_of r) ≡ ok_flags 0x80
+Announced update_complete r = r ≡ update_completed
 
 -- of every request
 abbrev pub AllAnnounced : Type 0
 AllAnnounced =
-    (x : Fixed) (c : Contents) (form : Form) (q : Request) → Announced c q (in_bytes (perform x c form q).result)
+    (x : Fixed) (c : Contents) (form : Form) (q : Request) → Announced q (in_bytes (perform x c form q).result)
 
 -- What a request leaves of the contents, which were `old` and are `new`: a write changes memory alone, 0x88 the lock
--- memory alone ("The lock changes nothing else"), 0x8C the next number alone, and the others nothing.
+-- memory alone ("The lock changes nothing else"), and the others nothing.
 abbrev pub Leaves : Request → Contents → Contents → Type 0
 Leaves (read space address count) old new = new ≡ old
 Leaves (write space address bytes) old new = new.registers ≡ old.registers
@@ -115,8 +106,6 @@ Leaves (write_masked space address pairs) old new = new.registers ≡ old.regist
 Leaves options old new = new ≡ old
 Leaves (information space) old new = new ≡ old
 Leaves (reserve id) old new = new ≡ contents old.memory (with_lock new.registers.lock old.registers)
-Leaves (unique_ids count) old new =
-    new ≡ contents old.memory (with_next_number new.registers.next_number old.registers)
 Leaves update_complete old new = new ≡ old
 
 -- of every request
@@ -125,20 +114,19 @@ AllLeave = (x : Fixed) (c : Contents) (form : Form) (q : Request) → Leaves q c
 
 -- ---- what the code gives back
 
--- "The lock memory is six bytes", so many as the reply to 0x88 shows, and "the board's six-byte node ID" is in each ID.
-abbrev pub SixBytes : Request → Registers → Type 0
-SixBytes (read space address count) r = Unit {0}
-SixBytes (write space address bytes) r = Unit {0}
-SixBytes (write_masked space address pairs) r = Unit {0}
-SixBytes options r = Unit {0}
-SixBytes (information space) r = Unit {0}
-SixBytes (reserve id) r = length r.lock ≡ 6
-SixBytes (unique_ids count) r = length r.node_id ≡ 6
-SixBytes update_complete r = Unit {0}
+-- "The lock memory is six bytes", so many as the reply to 0x88 shows.
+abbrev pub SixBytes : Request → List ℕ → Type 0
+SixBytes (read space address count) held = Unit {0}
+SixBytes (write space address bytes) held = Unit {0}
+SixBytes (write_masked space address pairs) held = Unit {0}
+SixBytes options held = Unit {0}
+SixBytes (information space) held = Unit {0}
+SixBytes (reserve id) held = length held ≡ 6
+SixBytes update_complete held = Unit {0}
 
 -- The answer r, the buffer `after` and the contents `left` are what a request does, over the buffer `before`.
 pub record Performed (x : Fixed) (c : Contents) (form : Form) (q : Request) (r : Answer)
     (before after : List ℕ) (left : Contents) : Type 0 where
   pub answer : Agrees (in_bytes (perform x c form q).result) r before after
   pub contents : left ≡ (perform x c form q).contents
-  pub six : SixBytes q left.registers
+  pub six : SixBytes q left.registers.lock

@@ -5,7 +5,7 @@ use mathlib.Core.Bool.{true, false}
 use mathlib.Core.List.{[], ◌∷◌}
 use Rattle.cmd_fields.specs.Commands.{head_bytes}
 use Rattle.cmd_fields.specs.declared.Form.TheVariants.{Byte6, Fd, Fe, Ff}
-use Rattle.reply_spec.specs.ReplyForms.{no_text, text, text_bytes, no_lowest, lowest, no_address, lowest_address, read, read_failure, write_done, write_failure, options, information, locked, unique_ids, ids_bytes, reply_bytes, no_zero, Ended}
+use Rattle.reply_spec.specs.ReplyForms.{no_text, text, text_bytes, no_lowest, lowest, no_address, lowest_address, read, read_failure, write_done, write_failure, options, information, locked, reply_bytes, no_zero, Ended}
 
 -- ---- texts
 
@@ -70,9 +70,3 @@ absent = refl
 
 held : reply_bytes (locked (1 ∷ 2 ∷ 3 ∷ 4 ∷ 5 ∷ 6 ∷ [])) ≡ 0x20 ∷ 0x8A ∷ 1 ∷ 2 ∷ 3 ∷ 4 ∷ 5 ∷ 6 ∷ []
 held = refl
-
--- IDs stand one after another, and two of them are not one of sixteen bytes
-two_ids : reply_bytes (unique_ids ((5 ∷ 1 ∷ 1 ∷ 1 ∷ 2 ∷ 0x2B ∷ 0 ∷ 7 ∷ []) ∷ (5 ∷ 1 ∷ 1 ∷ 1 ∷ 2 ∷ 0x2B ∷ 0 ∷ 8 ∷ []) ∷ []))
-    ≡ 0x20 ∷ 0x8D ∷ 5 ∷ 1 ∷ 1 ∷ 1 ∷ 2 ∷ 0x2B ∷ 0 ∷ 7 ∷ 5 ∷ 1 ∷ 1 ∷ 1 ∷ 2 ∷ 0x2B ∷ 0 ∷ 8 ∷ []
-unfolding ids_bytes
-two_ids = refl

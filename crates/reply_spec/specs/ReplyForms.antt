@@ -1,8 +1,7 @@
--- Source document 000, sections 4.5, 4.9, 4.14, 4.16, 4.18 and 4.20: the language of the replies to the commands of
--- document 01 and to 0x8C, C-17 of document 02. Each reply is given by its fields and the bytes that they make: nothing here says which reply a board sends, or
+-- Source document 000, sections 4.5, 4.9, 4.14, 4.16 and 4.18: the language of the replies to the commands of document
+-- 01. Each reply is given by its fields and the bytes that they make: nothing here says which reply a board sends, or
 -- how a datagram is taken apart.
 use Rattle.std.specs.Prelude.{ℕ, ◌/◌, ◌%◌, ◌≤◌, ◌≡◌, Bool, true, cond, not, ◌&&◌, List, [], ◌∷◌, ◌++◌, eqb, length}
-use Rattle.buffer.specs.Buffer.{Each}
 use Rattle.buffer.specs.BigEndian.{bytes_of, two_bytes}
 use Rattle.cmd_fields.specs.Commands.{Names, head_bytes}
 use Rattle.cmd_fields.specs.declared.Form.{Form}
@@ -37,13 +36,6 @@ abbrev pub address_bytes : LowestAddress → List ℕ
 address_bytes no_address = []
 address_bytes (lowest_address a) = bytes_of a
 
--- ---- event IDs
-
--- IDs, one after another.
-unfoldable pub ids_bytes : List (List ℕ) → List ℕ
-ids_bytes [] = []
-ids_bytes (id ∷ ids) = id ++ ids_bytes ids
-
 -- ---- the replies, and their bytes
 
 pub data Reply : Type 0 where
@@ -59,11 +51,9 @@ pub data Reply : Type 0 where
   information : (present : Bool) (space highest flags : ℕ) (low : LowestAddress) (description : Text) → Reply
   -- 4.18: who holds the lock
   locked : (id : List ℕ) → Reply
-  -- 4.20: "requested Event IDs"
-  unique_ids : (ids : List (List ℕ)) → Reply
 
 -- Document 01 says of them: "command + 0x10" of a read's; "Its command is 0x58, 0x18 or 0x18, plus the low two bits" of
--- the failures'; 20 82, 20 87 or 20 86, and 20 8A of the others; C-17: "the reply is 20 8D .. and that many eight-byte IDs".
+-- the failures'; 20 82, 20 87 or 20 86, and 20 8A of the others.
 abbrev pub reply_bytes : Reply → List ℕ
 reply_bytes (read form space address bytes) = head_bytes 0x50 form space address ++ bytes
 reply_bytes (read_failure form space address code message) =
@@ -75,7 +65,6 @@ reply_bytes (options commands lengths highest low) = 0x20 ∷ 0x82 ∷ (two_byte
 reply_bytes (information present space highest flags low description) =
     0x20 ∷ cond present 0x87 0x86 ∷ space ∷ (bytes_of highest ++ flags ∷ (address_bytes low ++ text_bytes description))
 reply_bytes (locked id) = 0x20 ∷ 0x8A ∷ id
-reply_bytes (unique_ids ids) = 0x20 ∷ 0x8D ∷ ids_bytes ids
 
 -- ---- which of them there are
 
@@ -100,12 +89,7 @@ lowest_bit (lowest_address a) = 1
 abbrev pub bit1 : ℕ → ℕ
 bit1 flags = flags / 2 % 2
 
--- An event ID has eight bytes.
-abbrev pub EightBytes : List ℕ → Type 0
-EightBytes id = length id ≡ 8
-
--- 1 to 64 bytes read; "in a failure reply 63 bytes at most with it"; an ID of six bytes; "1-8 requested Event IDs, a
--- total of 8-64 bytes".
+-- 1 to 64 bytes read; "in a failure reply 63 bytes at most with it"; an ID of six bytes.
 unfoldable pub WellFormed : Reply → Type 0
 WellFormed (read form space address bytes) = Names form space × (1 ≤ length bytes) × (length bytes ≤ 64)
 WellFormed (read_failure form space address code message) = Names form space × Ended message × (length (text_bytes message) ≤ 63)
@@ -114,7 +98,6 @@ WellFormed (write_failure form space address code message) = Names form space ×
 WellFormed (options commands lengths highest low) = EndedBehind low
 WellFormed (information present space highest flags low description) = (bit1 flags ≡ lowest_bit low) × Ended description
 WellFormed (locked id) = length id ≡ 6
-WellFormed (unique_ids ids) = (1 ≤ length ids) × (length ids ≤ 8) × Each EightBytes ids
 
 -- The datagram d is this reply: "No reply is over 72 bytes." That numbers fit their bytes follows where d is made of
 -- bytes (`buffer: Buffer.Bytes`).

@@ -1,17 +1,14 @@
 /*
- * A minimal board: 64 bytes of settings that tools may read and write, a CDI that they may read, and event IDs that
- * they may ask for.
+ * A minimal board: 64 bytes of settings that tools may read and write, and a CDI that they may read.
  *
- * The CAN controller is played by an array of received frames and by standard output. In a driver can_receive,
- * can_send, store, load_number, store_number and tick_now talk to the hardware, and the main loop has no end; the rest
- * stays as it is.
+ * The CAN controller is played by an array of received frames and by standard output. In a driver can_receive, can_send, store and
+ * tick_now talk to the hardware, and the main loop has no end; the rest stays as it is.
  */
 #define _POSIX_C_SOURCE 200809L
 
 #include "bujorelm.h"
 
 #include <stdio.h>
-#include <string.h>
 #include <time.h>
 
 /* ---- The hardware ---- */
@@ -33,8 +30,6 @@ static bool can_receive(struct received *frame)
         {0x1A123456, 2, {0x20, 0xA8}},
         /* Read 16 bytes from address 0 of space 0xFD. */
         {0x1A123456, 7, {0x20, 0x41, 0x00, 0x00, 0x00, 0x00, 0x10}},
-        /* Get Unique ID: two event IDs. */
-        {0x1A123456, 3, {0x20, 0x8C, 0x02}},
         /* A command that the board does not know. */
         {0x1A123456, 2, {0x20, 0xFF}},
     };
@@ -70,20 +65,6 @@ static bool store(size_t at, const uint8_t *bytes, size_t len)
     return true;
 }
 
-/* The event number that is stored. The maker of the board has put 0 there, once. Where it cannot be read, since the
-   store is blank or damaged, this is BUJORELM_EVENT_NUMBERS: then none is left, and none is given twice. */
-static uint32_t load_number(void)
-{
-    return 0;
-}
-
-/* Stores an event number so that it outlasts a power cut; false where that fails. */
-static bool store_number(uint32_t number)
-{
-    printf("store event number %lu\n", (unsigned long)number);
-    return true;
-}
-
 /* The low 16 bits of a free-running count of milliseconds. */
 static uint16_t tick_now(void)
 {
@@ -110,15 +91,7 @@ static const struct bujorelm_description description = {
     .spaces = spaces,
 };
 
-static const uint8_t node_id[6] = {0x05, 0x01, 0x01, 0x01, 0x01, 0x23};
-
 static struct bujorelm_node node;
-
-/* The event number that is stored. Every number that was ever sent is below it. */
-static uint32_t stored_number;
-
-/* How far the stored number may be ahead: the store is written once for so many numbers. */
-#define STEP 64u
 
 /* Whether the library refuses what the firmware hands in; the sentence says what to change. */
 static bool is_refused(struct bujorelm_result result)
@@ -132,23 +105,6 @@ static bool is_refused(struct bujorelm_result result)
     return true;
 }
 
-/* Sees to it that no number which the last call gave can be given again: the stored one is above them, before they are
-   sent. It is stored ahead, as the next multiple of the step. */
-static bool keep_number(void)
-{
-    const uint32_t next = node.registers.next_number;
-    const uint32_t ahead = (next + STEP - 1) / STEP * STEP;
-
-    if (next <= stored_number) {
-        return true;
-    }
-    if (!store_number(ahead)) {
-        return false;
-    }
-    stored_number = ahead;
-    return true;
-}
-
 /* A received frame: handled, then stored, then answered. */
 static void board_receive(const struct received *frame)
 {
@@ -159,10 +115,6 @@ static void board_receive(const struct received *frame)
     }
     if (result.kind == BUJORELM_WRITTEN && !store(result.changed_at, settings + result.changed_at, result.changed_len)) {
         /* A tool that hears nothing does not rely on what it wrote. */
-        return;
-    }
-    if (!keep_number()) {
-        /* Nobody has heard of the numbers that were given, and they are given to nobody else. */
         return;
     }
     if (!bujorelm_send_frames(node.frames, result.frame_count, can_send, NULL)) {
@@ -190,9 +142,6 @@ int main(void)
         return 1;
     }
     bujorelm_node_start(&node, &description, cdi, sizeof cdi, settings, sizeof settings);
-    memcpy(node.registers.node_id, node_id, sizeof node_id);
-    stored_number = load_number();
-    node.registers.next_number = stored_number;
     if (is_refused(bujorelm_node_check(&node))) {
         return 1;
     }

@@ -1,6 +1,5 @@
 /*
- * The demonstration board of document 01 on a CAN interface of Linux, its memory and its next event number kept in a
- * file. A file that is not there yet is made: that is the first power-up of a new board.
+ * The demonstration board of document 01 on a CAN interface of Linux, its memory kept in a file.
  *
  *   socketcan INTERFACE FILE
  *
@@ -54,27 +53,6 @@ static bool store(int file, size_t at, size_t len)
     return pwrite(file, memory + at, len, (off_t)at) == (ssize_t)len && fdatasync(file) == 0;
 }
 
-/* Stores the next event number, behind memory, and again with all its bits inverted, so that a damaged one shows. It is
-   on the disk when this is back. */
-static bool store_number(int file)
-{
-    const uint32_t kept[] = {node.registers.next_number, ~node.registers.next_number};
-
-    return pwrite(file, kept, sizeof kept, sizeof memory) == (ssize_t)sizeof kept && fdatasync(file) == 0;
-}
-
-/* The event number that is stored. Where there is none, or a damaged one, nobody knows which were given: then none is
-   left. */
-static uint32_t load_number(int file)
-{
-    uint32_t kept[2] = {0, 0};
-
-    if (pread(file, kept, sizeof kept, sizeof memory) != (ssize_t)sizeof kept || kept[1] != ~kept[0]) {
-        return BUJORELM_EVENT_NUMBERS;
-    }
-    return kept[0];
-}
-
 /* Whether the library refuses what it is handed; the sentence says what is wrong. */
 static bool is_refused(struct bujorelm_result result)
 {
@@ -99,14 +77,12 @@ static uint16_t tick_now(void)
 /* A frame for the board: handled, then stored, then answered. */
 static void receive_frame(int bus, int file, uint32_t header, const struct can_frame *received)
 {
-    const uint32_t number = node.registers.next_number;
     const struct bujorelm_result result = bujorelm_node_handle_frame(&node, tick_now(), header, received->data, received->can_dlc);
 
     if (is_refused(result)) {
         return;
     }
-    if ((result.kind == BUJORELM_WRITTEN && !store(file, result.changed_at, result.changed_len)) ||
-        (node.registers.next_number != number && !store_number(file))) {
+    if (result.kind == BUJORELM_WRITTEN && !store(file, result.changed_at, result.changed_len)) {
         perror("store");
         return;
     }
@@ -156,35 +132,21 @@ static int open_bus(const char *interface)
     return bus;
 }
 
-/* A fresh board. */
-static void start(void)
-{
-    bujorelm_node_start(&node, &demonstration_description, demonstration_flash, sizeof demonstration_flash, memory, sizeof memory);
-    node.registers = demonstration_registers;
-}
-
-/* What the last run has left: its memory, of which bytes that the file lacks are zero, and its next event number. */
-static bool load(int file)
-{
-    node.registers.next_number = load_number(file);
-    return pread(file, memory, sizeof memory, 0) >= 0;
-}
-
-/* A file that is made here is a new board's, whose first number is stored. */
+/* The memory of the last run; bytes that the file lacks are zero. */
 static int open_store(const char *name)
 {
-    int file = open(name, O_RDWR | O_CREAT | O_EXCL, 0666);
+    const int file = open(name, O_RDWR | O_CREAT, 0666);
 
-    if (file < 0) {
-        file = open(name, O_RDWR);
-    } else if (!store_number(file)) {
-        file = -1;
-    }
-    if (file < 0 || !load(file)) {
+    if (file < 0 || pread(file, memory, sizeof memory, 0) < 0) {
         perror(name);
         exit(EXIT_FAILURE);
     }
     return file;
+}
+
+static void start(void)
+{
+    bujorelm_node_start(&node, &demonstration_description, demonstration_flash, sizeof demonstration_flash, memory, sizeof memory);
 }
 
 int main(int argc, char **argv)

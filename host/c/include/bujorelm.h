@@ -10,9 +10,9 @@
  * the library's.
  *
  * The library joins the datagram frames that a board receives, handles each finished datagram, and gives the frames
- * that the board sends back. "Document 01" below is the paper that fixes its behaviour, and "C-14", "C-15" and "C-17"
- * the change requests of these names in document 02, which do so for ticks, for what follows on a broken datagram and
- * for event numbers. docs/DRIVER.md shows how a driver uses it.
+ * that the board sends back. "Document 01" below is the paper that fixes its behaviour, and "C-14" and "C-15" the
+ * change requests of these names in document 02, which do so for ticks and for what follows on a broken datagram.
+ * docs/DRIVER.md shows how a driver uses it.
  *
  * Rules that hold for every function:
  *
@@ -24,7 +24,7 @@
  *   buffer's length is read or written.
  * - A buffer of any length is a pointer and then its length. Where the length is 0 the pointer is not used and may be
  *   NULL.
- * - What has one size is a pointer alone: the registers (16 bytes), the pool (576), the reception state (64), the room
+ * - What has one size is a pointer alone: the registers (6 bytes), the pool (576), the reception state (64), the room
  *   for frames (ten of 16 bytes, in every function that makes some), and every other struct. Such a pointer is never
  *   NULL, and leads to all of that size in every call, also in one that is refused or does not use it: there is no
  *   length that could say that it is empty.
@@ -73,7 +73,7 @@ extern "C" {
 
 /* The version of this header: major in the upper 16 bits, minor in the lower 16. Another major is another interface; a
    greater minor has more, and all that a smaller one has. bujorelm_version_fits compares it with the archive's. */
-#define BUJORELM_VERSION 0x00070000u
+#define BUJORELM_VERSION 0x00060000u
 
 /* ---- Sizes ---- */
 
@@ -107,9 +107,6 @@ extern "C" {
 #define BUJORELM_FRAME_DATA_MAX 8u
 #define BUJORELM_FRAMES_MAX 9u
 #define BUJORELM_SENT_MAX 10u
-
-/* How many event numbers a board has: 0 to 65,535. A next number of this value means that none is left. */
-#define BUJORELM_EVENT_NUMBERS 65536u
 
 /* The most bytes that one write changes. */
 #define BUJORELM_CHANGED_MAX 64u
@@ -147,21 +144,19 @@ enum bujorelm_kind {
        the frame was a Last its place is kept and the source is being swallowed from now on. A source that is being
        swallowed never gets this kind. */
     BUJORELM_TRANSPORT_REFUSAL = 3,
-    /* A finished datagram that is refused. Rejected is sent with `code`, which is 0x1000, 0x1041, 0x1042 or 0x1080.
-       Memory and registers are as they were. */
+    /* A finished datagram that is refused. Rejected is sent with `code`, which is 0x1041, 0x1042 or 0x1080. Memory and
+       lock are as they were. */
     BUJORELM_REJECTED = 4,
     /* A write or masked write that is done. Received OK is sent with `flags`, which is 0x00. Memory has changed in
        `changed_len` bytes, 1 to 64, from index `changed_at` on, and nowhere else; what is written may also be what was
-       there. This is the only kind that changes memory. The registers are as they were. */
+       there. This is the only kind that changes memory. */
     BUJORELM_WRITTEN = 5,
     /* A finished datagram that has a reply. Received OK is sent with `flags`, which is 0x80 (reply pending), and then
        the reply datagram: the first `reply_len` bytes of the reply buffer. A read or a write that failed is answered so
-       as well; its reply carries one of the codes 0x1081, 0x1082 and 0x1083. This is the only kind that changes the
-       registers: Lock/Reserve (0x88) may have changed the lock, and Get Unique ID (0x8C) has raised the next number by
-       as many event numbers as its reply gives. No other command changes either. */
+       as well; its reply carries one of the codes 0x1081, 0x1082 and 0x1083. Only Lock/Reserve changes the lock. */
     BUJORELM_REPLIED = 6,
     /* Update Complete: the tool has written all that it wanted to. Received OK is sent with `flags`, which is 0x00.
-       Memory and registers are as they were. */
+       Memory and lock are as they were. */
     BUJORELM_UPDATE_COMPLETE = 7
 };
 
@@ -169,7 +164,7 @@ enum bujorelm_kind {
  * The errors of the caller: what is wrong with what a call is handed. They are returned, and never sent on the bus.
  * Document 01 calls them the house numbers. They are tested first at each call, in this order, but for B2 to B5, which
  * are tested for one space after the other: the first space with an error decides. These four bring its position in the
- * table, counted from 0; the others have none. There is no B1 or B8.
+ * table, counted from 0; the others have none. There is no B1, B8 or B10.
  */
 enum bujorelm_error {
     /* No error: the call is not refused. */
@@ -197,10 +192,7 @@ enum bujorelm_error {
        being swallowed counts like any other, but holds no datagram, so that nothing is asked of its length. A state
        that starts all zero and is changed by calls alone has none of it. It is tested before any place is freed for its
        age, and asks nothing of the ticks in the state. */
-    BUJORELM_ERROR_B7_BAD_RECEPTION_STATE = 7,
-    /* The next number in the registers is over 65,536 (C-17). It is tested before any place is freed for its age, and
-       not in bujorelm_handle_tick, which is lent no registers. */
-    BUJORELM_ERROR_B10_NEXT_NUMBER_TOO_HIGH = 10
+    BUJORELM_ERROR_B7_BAD_RECEPTION_STATE = 7
     /* B9 belongs to bujorelm_cut alone, which then makes no frame and returns 0. */
 };
 
@@ -210,13 +202,9 @@ enum bujorelm_flags {
     BUJORELM_FLAGS_REPLY_PENDING = 0x80
 };
 
-/* The codes of OpenLCB's S-9.7.3. Those with the bit 0x1000 are permanent: the tool must not repeat. Those with the bit
-   0x2000 are temporary: it may. */
+/* The codes of OpenLCB's S-9.7.3. 0x1000 is permanent: the tool must not repeat. 0x2000 is temporary: it may. */
 enum bujorelm_code {
     BUJORELM_CODE_NONE = 0,
-    /* In Rejected: a Get Unique ID (0x8C) of the right length that asks for more event numbers than are left. None is
-       given, though fewer may be left. */
-    BUJORELM_CODE_PERMANENT = 0x1000,
     /* In Rejected: byte 1 of the datagram is no command that the board knows. */
     BUJORELM_CODE_UNKNOWN_COMMAND = 0x1041,
     /* In Rejected: byte 0 of the datagram is not 0x20. */
@@ -280,24 +268,10 @@ struct bujorelm_description {
     const struct bujorelm_space *spaces;
 };
 
-/*
- * The registers: what a datagram may change besides memory, and the node ID that belongs to it.
- *
- * lock         the lock memory: all zero at the start, afterwards as each call leaves it. It is set by Lock/Reserve
- *              (0x88) and changes nothing else
- * node_id      the board's own node ID, in the order in which it is sent. The event IDs of the board begin with it. No
- *              call changes it
- * next_number  the lowest event number that was never given, 0 to 65,536: 0 at the first power-up of the board, and
- *              afterwards as each call leaves it, also over a power cycle. 65,536 means that none is left. It rises by
- *              as many numbers as the reply to a Get Unique ID (0x8C) gives, and never falls
- *
- * The driver keeps `next_number` in storage that outlives the power, and stores it before the frames of the reply are
- * sent: then a power cut wastes numbers but never repeats one. docs/DRIVER.md says how.
- */
+/* The registers: what a datagram may change besides memory. All zero at the start, afterwards as each call leaves them.
+   They are the lock memory alone today, which is set by Lock/Reserve (0x88) and changes nothing else. */
 struct bujorelm_registers {
     uint8_t lock[6];
-    uint8_t node_id[6];
-    uint32_t next_number;
 };
 
 /* A place for one source: whether it is held (any byte but 0), how many bytes of the source's unfinished datagram have come, the source's
@@ -399,10 +373,8 @@ BUJORELM_AT(space, lowest, 4);
 BUJORELM_AT(space, highest, 8);
 BUJORELM_AT(space, offset, 12);
 
-BUJORELM_SIZE(registers, 16);
+BUJORELM_SIZE(registers, 6);
 BUJORELM_AT(registers, lock, 0);
-BUJORELM_AT(registers, node_id, 6);
-BUJORELM_AT(registers, next_number, 12);
 
 BUJORELM_SIZE(place, 8);
 BUJORELM_AT(place, held, 0);
@@ -501,7 +473,7 @@ uint32_t bujorelm_version(void);
  *                are no space
  * flash          lent; what spaces in flash read from
  * memory         lent; what the other spaces read from and write to
- * registers      lent; the lock memory, the node ID and the next number. Keep them as they are between calls
+ * registers      lent; the lock memory
  * pool           lent, 576 bytes: the bytes of unfinished datagrams. Keep them as they are between calls
  * reception      lent; the reception state. Keep it as it is between calls
  * tick           the driver's tick now
@@ -518,13 +490,10 @@ uint32_t bujorelm_version(void);
  * BUJORELM_UPDATE_COMPLETE; Received OK and then 1 to 9 frames of the reply for BUJORELM_REPLIED.
  *
  * What never happens: a byte of memory changes for any kind but BUJORELM_WRITTEN, or outside the bytes that it names; a
- * byte of the lock changes but by a Lock/Reserve that is replied to; the next number changes but by a Get Unique ID
- * that is replied to, and then it does not fall; a byte of the node ID changes; a byte of the reply buffer is written
- * for any kind but BUJORELM_REPLIED, or behind its first `reply_len`; a byte of `frames` is written behind the first
- * `frame_count`; a byte of the pool changes by a frame that is swallowed or gets a transport refusal; any byte of
- * anything but `result` changes for BUJORELM_REFUSED, or for BUJORELM_IGNORED but in the places that were too old. And
- * no event ID is sent twice in the life of a board, if each call gets the node ID and the next number that the call
- * before left.
+ * byte of the lock changes but by a Lock/Reserve that is replied to; a byte of the reply buffer is written for any kind
+ * but BUJORELM_REPLIED, or behind its first `reply_len`; a byte of `frames` is written behind the first `frame_count`;
+ * a byte of the pool changes by a frame that is swallowed or gets a transport refusal; any byte of anything but
+ * `result` changes for BUJORELM_REFUSED, or for BUJORELM_IGNORED but in the places that were too old.
  */
 void bujorelm_handle_frame(uint16_t alias, uint8_t write_lengths, const struct bujorelm_space *spaces, uint64_t spaces_size,
                            const uint8_t *flash, uint64_t flash_len, uint8_t *memory, uint64_t memory_len,
@@ -615,8 +584,7 @@ void bujorelm_last_line(struct bujorelm_carry *carry, struct bujorelm_line *line
  * `frames` hold it until the next call for this node. The table of spaces, `flash` and `memory` stay the caller's: they
  * must outlive the node, at the same place. The fields are open to the caller, who may read them between calls and may
  * replace the description (as when the alias changes; set the reception state to all zero then, since what is
- * unfinished was sent to the old alias). A board that gives event numbers sets `registers.node_id` and
- * `registers.next_number` behind bujorelm_node_start, to its own node ID and to the number that it has kept.
+ * unfinished was sent to the old alias).
  */
 struct bujorelm_node {
     struct bujorelm_description description;
@@ -712,10 +680,9 @@ static inline uint64_t bujorelm_spaces_size(size_t count)
     return (count < most ? count : most) * sizeof(struct bujorelm_space);
 }
 
-/* A fresh node: the lock and the node ID all zero, no event number left, nothing unfinished. So a board that is told no
-   next number rejects a Get Unique ID, and cannot repeat a number. The description is copied, but for the table of
-   spaces; flash and memory are not. Nothing is tested here: a bad description is refused at the first call. What the
-   reply buffer and the room for frames hold is left. */
+/* A fresh node: registers all zero, nothing unfinished. The description is copied, but for the table of spaces; flash
+   and memory are not. Nothing is tested here: a bad description is refused at the first call. What the reply buffer and
+   the room for frames hold is left. */
 static inline void bujorelm_node_start(struct bujorelm_node *node, const struct bujorelm_description *description,
                                        const uint8_t *flash, size_t flash_len, uint8_t *memory, size_t memory_len)
 {
@@ -731,7 +698,6 @@ static inline void bujorelm_node_start(struct bujorelm_node *node, const struct 
     for (i = 0; i < sizeof node->registers; i++) {
         registers[i] = 0;
     }
-    node->registers.next_number = BUJORELM_EVENT_NUMBERS;
     for (i = 0; i < sizeof node->reception; i++) {
         places[i] = 0;
     }
@@ -775,8 +741,8 @@ static inline struct bujorelm_result bujorelm_node_handle_datagram(struct bujore
 }
 
 /* What comes of a frame that no board is interested in, for the node as it stands: BUJORELM_REFUSED with the first
-   error that applies, or else BUJORELM_IGNORED. A test for the start of the firmware, so that a bad description or a
-   next number over 65,536 shows before the first frame. It changes nothing, and brings no tick. */
+   error that applies, or else BUJORELM_IGNORED. A test for the start of the firmware, so that a bad description shows
+   before the first frame. It changes nothing, and brings no tick. */
 static inline struct bujorelm_result bujorelm_node_check(const struct bujorelm_node *node)
 {
     /* Header 0 is no datagram frame: a good node ignores it and a bad one is refused, so that nothing is written
@@ -836,8 +802,6 @@ static inline const char *bujorelm_error_text(enum bujorelm_error error)
         return "the reply buffer has fewer than 72 bytes";
     case BUJORELM_ERROR_B7_BAD_RECEPTION_STATE:
         return "the reception state holds what no call has left there";
-    case BUJORELM_ERROR_B10_NEXT_NUMBER_TOO_HIGH:
-        return "the next event number is over 65,536";
     case BUJORELM_ERROR_NONE:
     default:
         return "a mistake that this header does not know";
@@ -895,8 +859,8 @@ static inline bool bujorelm_send_frames(const struct bujorelm_frame *frames, uin
 
 /* A received frame from its arrival until the frames that answer it are sent. What came of it is stored to `result`,
    which may be NULL, before the first frame is sent. Returns what bujorelm_send_frames does. A driver that has to store
-   what was written, or the next number, before the tool hears of it calls bujorelm_node_handle_frame, stores, and then
-   calls bujorelm_send_frames. */
+   what was written before the tool hears of it calls bujorelm_node_handle_frame, stores, and then calls
+   bujorelm_send_frames. */
 static inline bool bujorelm_node_receive(struct bujorelm_node *node, uint16_t tick, uint32_t header, const uint8_t *payload,
                                          size_t payload_len, bujorelm_send_function send, void *context, struct bujorelm_result *result)
 {

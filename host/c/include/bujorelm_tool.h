@@ -19,7 +19,7 @@
  *   the same in both, so that two tools may set single bits of one byte. bujorelm_put_together makes one mask and data
  *   byte of two.
  *
- * "C-12", "C-15", "C-16" and "C-17" below are the change requests of these names in document 02.
+ * "C-12", "C-15" and "C-16" below are the change requests of these names in document 02.
  */
 #ifndef BUJORELM_TOOL_H
 #define BUJORELM_TOOL_H
@@ -32,7 +32,7 @@ extern "C" {
 
 /* The version of this header, in the form of BUJORELM_VERSION. bujorelm_tool_version_fits compares it with the
    archive's. */
-#define BUJORELM_TOOL_VERSION 0x00030001u
+#define BUJORELM_TOOL_VERSION 0x00030000u
 
 /* The fewest bytes that the buffer for a command must have. */
 #define BUJORELM_COMMAND_MIN 72u
@@ -51,8 +51,7 @@ extern "C" {
 enum bujorelm_refusal {
     BUJORELM_REFUSAL_NONE = 0,
     /* Of the writer: a count that is not 1 to 64, a write of no bytes or of more than 64, a masked write of no pair or
-       of more than 32, an odd number of bytes for pairs, an ID that has not six bytes, a request for no unique ID or
-       for more than 8. */
+       of more than 32, an odd number of bytes for pairs, an ID that has not six bytes. */
     BUJORELM_REFUSAL_W1 = 1,
     /* Of the writer, tested behind W1: a buffer of fewer than 72 bytes, whichever command it is for. */
     BUJORELM_REFUSAL_W2 = 2,
@@ -72,7 +71,7 @@ enum bujorelm_change_refusal {
 
 /* The replies: `kind` in struct bujorelm_reply. */
 enum bujorelm_reply_kind {
-    /* No reply to a command of document 01 or C-17: W3. */
+    /* No reply to a command of document 01: W3. */
     BUJORELM_REPLY_NONE = 0,
     /* The bytes that were read, 1 to 64, are `bytes`. */
     BUJORELM_REPLY_READ = 1,
@@ -87,10 +86,7 @@ enum bujorelm_reply_kind {
     /* `information` on the space `space`; a description of it may be in `bytes`. */
     BUJORELM_REPLY_INFORMATION = 6,
     /* The ID of who holds the lock, six bytes, is `bytes`: all zero where nobody does. */
-    BUJORELM_REPLY_LOCK = 7,
-    /* The unique IDs that the board gave, 1 to 8 of eight bytes each, are `bytes`, which are 8 to 64. They are event
-       IDs: the board's node ID, and then a number of two bytes, the most significant first. */
-    BUJORELM_REPLY_UNIQUE_IDS = 8
+    BUJORELM_REPLY_LOCK = 7
 };
 
 /* How a reply names its space: `form` in struct bujorelm_reply. */
@@ -328,10 +324,6 @@ void bujorelm_compose_information(uint8_t space, uint8_t *buffer, uint64_t buffe
 
 /* The lock, with an ID of six bytes, which are lent. An ID that is all zero releases it. */
 void bujorelm_compose_lock(const uint8_t *id, uint64_t id_len, uint8_t *buffer, uint64_t buffer_len, struct bujorelm_composed *composed);
-
-/* A request for `count` unique IDs, 1 to 8, which the board gives to nobody else (C-17). A count over 255 is W1 too: it
-   is not cut down to a byte, or to the three bits that the command has for it. Those are zero for 8. */
-void bujorelm_compose_unique_ids(uint64_t count, uint8_t *buffer, uint64_t buffer_len, struct bujorelm_composed *composed);
 
 /* Update Complete. */
 void bujorelm_compose_update_complete(uint8_t *buffer, uint64_t buffer_len, struct bujorelm_composed *composed);

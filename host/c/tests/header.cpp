@@ -16,7 +16,6 @@ int main()
     bujorelm_description description = bujorelm_description();
     uint8_t memory[4] = {0, 0, 0, 0};
     const uint8_t options[] = {0x20, 0x80};
-    const uint8_t one_id[] = {0x20, 0x8C, 0x01};
     bujorelm_result answer;
     bujorelm_carry carry = bujorelm_carry();
     bujorelm_line line;
@@ -36,13 +35,6 @@ int main()
         bujorelm_kind_of(answer) != BUJORELM_REPLIED ||
         bujorelm_next_line(reinterpret_cast<const uint8_t *>("\n"), 1, 0, &carry, &line) != 1 || !line.complete) {
         std::puts("header: the library does not answer in C++");
-        return 1;
-    }
-    node.registers.next_number = BUJORELM_EVENT_NUMBERS - 1;
-    if (bujorelm_node_handle_datagram(&node, one_id, sizeof one_id).reply_len != 10 || node.reply[8] != 0xFF || node.reply[9] != 0xFF ||
-        node.registers.next_number != BUJORELM_EVENT_NUMBERS ||
-        bujorelm_code_of(bujorelm_node_handle_datagram(&node, one_id, sizeof one_id)) != BUJORELM_CODE_PERMANENT) {
-        std::puts("header: the library does not give its last event number in C++");
         return 1;
     }
     std::puts("header: works in C++");

@@ -1,5 +1,5 @@
 """Tests of the reference host: document 01's session and odd lines on standard input, several tools at once on TCP, unfinished datagrams that grow
-old, broken ones, which are rejected once, and event numbers, which begin with 0 each time that the host starts.
+old, and broken ones, which are rejected once.
 
 Usage: python3 host_test.py HOST [STEP]
 
@@ -185,42 +185,6 @@ def test_broken():
         (first + whole + b"".join(rest) + whole + READ_BACK, 4 * OUT_OF_ORDER + done, "strays behind a broken datagram"),
     ):
         expect(run(text), wanted, what)
-
-
-# A request for two event IDs, one for one that is too long, one for a single ID in two frames, and what is answered to each in this order.
-EVENTS_IN = b":X1A22B123N208C02;\n:X1A22B123N208C0100;\n:X1B22B456N208C;\n:X1D22B456NF9;\n"
-EVENTS_OUT = b"""\
-:X19A2822BN012380;
-:X1B12322BN208D05010101022B;
-:X1C12322BN000005010101022B;
-:X1D12322BN0001;
-:X19A4822BN01231080;
-:X19A2822BN045680;
-:X1B45622BN208D05010101022B;
-:X1D45622BN0002;
-"""
-
-
-def replies(lines):
-    """The reply datagrams among the board's lines, in hex. The frames of each come one behind the other."""
-    joined = []
-    for line in lines:
-        if line[2:4] in (b"1A", b"1B"):
-            joined.append(b"")
-        if line[2:4] in (b"1A", b"1B", b"1C", b"1D"):
-            joined[-1] += line[11:-1]
-    return joined
-
-
-def test_events():
-    for _ in range(2):
-        expect(run(EVENTS_IN), EVENTS_OUT, "the first three event IDs")
-    # Two tools ask in turn, from the first number to the last: seven for the one, one for the other.
-    text = b":X1A22B123N208CFF;\n:X1A22B456N208C01;\n" * 8192
-    lines = run(text + b":X1A22B123N208C01;\n").splitlines()
-    expect(lines[-1], b":X19A4822BN01231000;", "the answer when no number is left")
-    ids = [reply[at : at + 16] for reply in replies(lines) for at in range(4, len(reply), 16)]
-    expect(sorted(ids), [b"05010101022B%04X" % number for number in range(65536)], "all event IDs, each once")
 
 
 def test_answers_before_next_read():
@@ -784,7 +748,6 @@ TESTS = (
     test_session,
     test_lines,
     test_broken,
-    test_events,
     test_answers_before_next_read,
     test_nobody_reads,
     test_nonblocking,

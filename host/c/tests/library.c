@@ -1,9 +1,9 @@
 /*
  * Tests of the library through its C interface: document 01's session and whole datagrams, every error of the caller
- * and every transport refusal, the bounds of every lent buffer, which bytes a write changes, all event numbers up to the
- * last and past it, the frames that are given to be sent, every value of the bytes that say yes or no and of those that
- * mean nothing, unfinished datagrams of every age, what is swallowed behind a broken datagram, the GridConnect functions
- * and the line splitter, the inline functions of the header, and pseudo-random calls.
+ * and every transport refusal, the bounds of every lent buffer, which bytes a write changes, the frames that are given
+ * to be sent, every value of the bytes that say yes or no and of those that mean nothing, unfinished datagrams of every
+ * age, what is swallowed behind a broken datagram, the GridConnect functions and the line splitter, the inline
+ * functions of the header, and pseudo-random calls.
  *
  * Usage: library [how many pseudo-random frames]
  */
@@ -79,7 +79,6 @@ static void board_demonstration(struct board *b)
 
     board_new(b, &d, sizeof demonstration_flash, DEMONSTRATION_MEMORY_SIZE, BUJORELM_REPLY_MIN);
     memcpy(b->flash.bytes, demonstration_flash, sizeof demonstration_flash);
-    b->node.registers = demonstration_registers;
 }
 
 static void board_free(struct board *b)
@@ -472,10 +471,6 @@ static void test_layout(void)
     static const uint8_t single[16] = {0xEF, 0xCD, 0xAB, 0x1A, 8, 0, 0, 0, 1, 2, 3, 4, 5, 6, 7, 8};
     static const uint8_t received_ok[16] = {0x2B, 0x82, 0xA2, 0x19, 3, 0, 0, 0, 0x0F, 0x23, 0x80, 0, 0, 0, 0, 0};
     static const uint8_t locked[8] = {0x20, 0x88, 1, 2, 3, 4, 5, 6};
-    /* The registers before, and behind a lock and a request for three unique IDs: the lock, the node ID, and the next number with the least
-       significant byte first. */
-    static const uint8_t registers[16] = {0, 0, 0, 0, 0, 0, 0xA1, 0xA2, 0xA3, 0xA4, 0xA5, 0xA6, 0xFE, 0x12, 0, 0};
-    static const uint8_t registers_after[16] = {1, 2, 3, 4, 5, 6, 0xA1, 0xA2, 0xA3, 0xA4, 0xA5, 0xA6, 0x01, 0x13, 0, 0};
 
     for (int at_start = 0; at_start < 2; at_start++) {
         struct board b;
@@ -484,11 +479,10 @@ static void test_layout(void)
         uint8_t places[64];
 
         /* docs/DRIVER.md says so. */
-        CHECK(sizeof b.node == 944 && sizeof b.node.description == 24);
+        CHECK(sizeof b.node == 936 && sizeof b.node.description == 24);
         board_demonstration(&b);
         b.tick = 0xABCD;
         lent_new(&l, at_start != 0);
-        memcpy(l.registers.bytes, registers, 16);
         memcpy(l.places.bytes, place_0, 8);
         memcpy(l.places.bytes + 56, place_7, 8);
         memcpy(places, l.places.bytes, 64);
@@ -504,14 +498,10 @@ static void test_layout(void)
         CHECK(memcmp(l.places.bytes, places, 64) == 0);
         CHECK(is_untouched(l.pool.bytes, 0, 568) && memcmp(l.pool.bytes + 568, eight, 8) == 0);
 
-        /* The lock and the next number are changed where they lie. */
-        CHECK(memcmp(l.registers.bytes, registers, 16) == 0);
+        /* The lock is changed where it lies. */
         answer = feed_lent(&b, &l, header_of(SINGLE, 0x22B, 0x124), locked, 8);
         CHECK(is_answer(answer, BUJORELM_REPLIED, 0, 0x80, 0, 8));
-        CHECK(memcmp(l.registers.bytes, locked + 2, 6) == 0 && memcmp(l.registers.bytes + 6, registers + 6, 10) == 0);
-        answer = feed_lent(&b, &l, header_of(SINGLE, 0x22B, 0x124), (const uint8_t *)"\x20\x8C\x03", 3);
-        CHECK(is_answer(answer, BUJORELM_REPLIED, 0, 0x80, 0, 26));
-        CHECK(memcmp(l.registers.bytes, registers_after, 16) == 0);
+        CHECK(memcmp(l.registers.bytes, locked + 2, 6) == 0);
         CHECK(memcmp(l.places.bytes, places, 64) == 0);
 
         /* A lone tick is lent the places and nothing else. A tick later the one is too old, and in the end the other is. */
@@ -539,7 +529,7 @@ static void test_layout(void)
 /* An empty buffer may have no address. */
 static void test_empty_buffers(void)
 {
-    struct bujorelm_registers registers = {.next_number = 0};
+    struct bujorelm_registers registers = {{0}};
     struct bujorelm_reception reception;
     struct bujorelm_frame frames[BUJORELM_SENT_MAX];
     uint8_t pool[BUJORELM_POOL_SIZE];
@@ -570,7 +560,7 @@ static void test_const_overlap(void)
     static const struct bujorelm_space table[] = {{.number = 0xFF, .read_only = true, .in_flash = true, .lowest = 0, .highest = 15}};
     static const uint8_t flash[] = {0x20, 0x43, 0, 0, 0, 0, 7};
     const uint8_t *const bytes = (const uint8_t *)table;
-    struct bujorelm_registers registers = {.next_number = 0};
+    struct bujorelm_registers registers = {{0}};
     struct bujorelm_reception reception;
     struct bujorelm_frame frames[BUJORELM_SENT_MAX];
     uint8_t pool[BUJORELM_POOL_SIZE];
@@ -662,9 +652,6 @@ struct datagram_case {
     const char *memory; /* bytes of memory afterwards, from its start; the others are zero. NULL for no change */
 };
 
-/* The first six IDs of the demonstration board. */
-#define SIX_IDS "05010101022B0000 05010101022B0001 05010101022B0002 05010101022B0003 05010101022B0004 05010101022B0005"
-
 static const struct datagram_case datagram_cases[] = {
     /* Document 01's list. */
     {"", 0x1080, NULL, NULL},
@@ -739,23 +726,6 @@ static const struct datagram_case datagram_cases[] = {
     {"20880501010102", 0x1080, NULL, NULL},
     {"20A8", 0, NULL, ""},
     {"20A800", 0x1080, NULL, NULL},
-
-    /* Unique IDs: byte 2 asks by its low three bits, zero for eight; the length; the reply is no command. */
-    {"208C01", 0, "208D 05010101022B0000", NULL},
-    {"208C02", 0, "208D 05010101022B0000 05010101022B0001", NULL},
-    {"208C07", 0, "208D " SIX_IDS " 05010101022B0006", NULL},
-    {"208C00", 0, "208D " SIX_IDS " 05010101022B0006 05010101022B0007", NULL},
-    {"208C08", 0, "208D " SIX_IDS " 05010101022B0006 05010101022B0007", NULL},
-    {"208CF8", 0, "208D " SIX_IDS " 05010101022B0006 05010101022B0007", NULL},
-    {"208CFE", 0, "208D " SIX_IDS, NULL},
-    {"208C11", 0, "208D 05010101022B0000", NULL},
-    {"208C", 0x1080, NULL, NULL},
-    {"208C0100", 0x1080, NULL, NULL},
-    {"208C0000000000000000", 0x1080, NULL, NULL},
-    {"218C01", 0x1042, NULL, NULL},
-    {"208D01", 0x1041, NULL, NULL},
-    {"208D05010101022B0000", 0x1041, NULL, NULL},
-    {"208E01", 0x1041, NULL, NULL},
 };
 
 /* What an accepted write changes, as document 01 has it: the first byte's index in memory, and how many there are. */
@@ -811,9 +781,6 @@ static void check_case(const struct datagram_case *c, const struct board *b, str
     }
     CHECK_CASE(memcmp(b->memory.bytes, memory, sizeof memory) == 0, c->datagram);
     CHECK_CASE(memcmp(b->flash.bytes, demonstration_flash, sizeof demonstration_flash) == 0, c->datagram);
-    /* The counter rises by as many as the reply has IDs, and by no other command; the node ID stays. */
-    CHECK_CASE(b->node.registers.next_number == (len > 1 && expected[1] == 0x8D ? (len - 2) / 8 : 0), c->datagram);
-    CHECK_CASE(memcmp(b->node.registers.node_id, demonstration_registers.node_id, 6) == 0, c->datagram);
 }
 
 /* Sends a datagram in frames that the library cuts, and returns the answer to the last of them. */
@@ -1020,8 +987,6 @@ static void test_result_bytes(void)
         {"2080", "06000000 0000 00 80 00000000 00000000 07 02 FF 00"},
         {"2040 00000003 20 40", "06000000 0000 00 80 00000000 00000000 47 0A FF 00"},
         {"2044", "04000000 4110 00 00 00000000 00000000 00 01 FF 00"},
-        {"208C03", "06000000 0000 00 80 00000000 00000000 1A 05 FF 00"},
-        {"208C04", "04000000 0010 00 00 00000000 00000000 00 01 FF 00"},
     };
     struct draft d = draft_demonstration();
     uint8_t datagram[BUJORELM_DATAGRAM_MAX];
@@ -1033,8 +998,6 @@ static void test_result_bytes(void)
         const size_t len = from_hex(cases[i][0], datagram);
 
         board_new(&b, &d, 0, BUJORELM_STORE_MAX, BUJORELM_REPLY_MIN);
-        /* Three are left. */
-        b.node.registers.next_number = 65533;
         CHECK_CASE(has_bytes(feed_cut(&b, datagram, len, 0x123), cases[i][1]), cases[i][0]);
         board_free(&b);
     }
@@ -1045,9 +1008,6 @@ static void test_result_bytes(void)
     CHECK(has_bytes(feed_hex(&b, MIDDLE, 0x123, "00"), "02000000 0000 00 00 00000000 00000000 00 00 FF 00"));
     CHECK(has_bytes(feed_hex(&b, LAST, 0x123, ""), "02000000 0000 00 00 00000000 00000000 00 00 FF 00"));
     CHECK(has_bytes(feed(&b, 0, NULL, 0), "01000000 0000 00 00 00000000 00000000 00 00 FF 00"));
-    CHECK(has_bytes(call_tick(&b), "02000000 0000 00 00 00000000 00000000 00 00 FF 00"));
-    b.node.registers.next_number = 65537;
-    CHECK(has_bytes(feed(&b, 0, NULL, 0), "00000000 0000 0A 00 00000000 00000000 00 00 FF 00"));
     CHECK(has_bytes(call_tick(&b), "02000000 0000 00 00 00000000 00000000 00 00 FF 00"));
     b.node.reception.places[7].held = 1;
     b.node.reception.places[7].len = 73;
@@ -1084,228 +1044,6 @@ static void test_lock(void)
     board_free(&b);
 }
 
-/* ---- Event numbers ---- */
-
-/* The reply to a request for unique IDs, made here as C-17 has it, and the registers behind it. Returns the length of the reply, or 0 where fewer
-   are left than asked for. */
-static size_t take_ids(struct bujorelm_registers *registers, uint8_t byte, uint8_t *reply)
-{
-    const size_t asked = byte % 8 == 0 ? 8 : byte % 8;
-
-    if (registers->next_number + asked > 65536) {
-        return 0;
-    }
-    memcpy(reply, "\x20\x8D", 2);
-    for (size_t i = 0; i < asked; i++) {
-        uint8_t *const id = reply + 2 + 8 * i;
-
-        memcpy(id, registers->node_id, 6);
-        id[6] = (uint8_t)(registers->next_number / 256);
-        id[7] = (uint8_t)(registers->next_number % 256);
-        registers->next_number++;
-    }
-    return 2 + 8 * asked;
-}
-
-/* Whether an answer is the one with a reply of so many bytes, or with 0 the one where fewer are left than asked for. */
-static bool is_answer_to_ids(struct bujorelm_result a, size_t len)
-{
-    return len == 0 ? is_answer(a, BUJORELM_REJECTED, 0, 0, 0x1000, 0) : is_answer(a, BUJORELM_REPLIED, 0, 0x80, 0, len);
-}
-
-/* Asks for unique IDs, in a frame or by a whole datagram, and checks the answer and what it leaves. Returns how many came. */
-static size_t ask_for_ids(struct board *b, uint8_t byte, bool whole)
-{
-    const uint8_t datagram[] = {0x20, 0x8C, byte};
-    const struct bujorelm_node before = b->node;
-    struct bujorelm_registers wanted = b->node.registers;
-    uint8_t memory[DEMONSTRATION_MEMORY_SIZE];
-    uint8_t ids[BUJORELM_REPLY_MIN];
-    const size_t len = take_ids(&wanted, byte, ids);
-    struct bujorelm_result answer;
-
-    memset(b->reply.bytes, UNTOUCHED, b->reply.len);
-    memcpy(memory, b->memory.bytes, sizeof memory);
-    answer = whole ? hand_over(b, datagram, sizeof datagram) : feed(b, header_of(SINGLE, 0x22B, 0x100u + byte), datagram, sizeof datagram);
-    CHECK(is_answer_to_ids(answer, len));
-    CHECK(memcmp(b->reply.bytes, ids, len) == 0 && is_untouched(b->reply.bytes, len, b->reply.len));
-    CHECK(memcmp(&b->node.registers, &wanted, sizeof wanted) == 0);
-    CHECK(same_places(&b->node.reception, &before.reception) && memcmp(b->memory.bytes, memory, sizeof memory) == 0);
-    return len / 8;
-}
-
-/* Notes the numbers of the IDs in a reply. They must be the demonstration board's own, and none may have come before. */
-static void note_ids(const uint8_t *reply, size_t count, bool *given)
-{
-    for (size_t i = 0; i < count; i++) {
-        const uint8_t *const id = reply + 2 + 8 * i;
-        const size_t number = (size_t)id[6] << 8 | id[7];
-
-        CHECK(memcmp(id, demonstration_registers.node_id, 6) == 0 && !given[number]);
-        given[number] = true;
-    }
-}
-
-/* Requests that are refused, by the length, by the joining of frames and by an error of the caller. They take nothing. */
-static void ask_in_vain(struct board *b)
-{
-    const struct bujorelm_registers before = b->node.registers;
-
-    CHECK(is_answer(feed_hex(b, SINGLE, 0x456, "208C"), BUJORELM_REJECTED, 0, 0, 0x1080, 0));
-    CHECK(is_answer(feed_hex(b, SINGLE, 0x456, "208C0101"), BUJORELM_REJECTED, 0, 0, 0x1080, 0));
-    CHECK(is_refusal(feed_hex(b, LAST, 0x456, "208C01"), 0x2040));
-    CHECK(is_joined(feed_hex(b, FIRST, 0x456, "208C")));
-    CHECK(is_refusal(feed_hex(b, SINGLE, 0x456, "208C01"), 0x2040));
-    CHECK(is_joined(feed_hex(b, LAST, 0x456, "01")));
-    b->node.description.alias = 0;
-    CHECK(is_error(feed_hex(b, SINGLE, 0x456, "208C01"), BUJORELM_ERROR_B14_ALIAS_OUT_OF_RANGE));
-    b->node.description.alias = 0x22B;
-    CHECK(is_answer(feed_hex(b, SINGLE, 0x22B, "208C01"), BUJORELM_IGNORED, 0, 0, 0, 0));
-    CHECK(memcmp(&b->node.registers, &before, sizeof before) == 0);
-}
-
-/* All numbers from one on, up to the last and past it. What came is read from the replies alone: no number comes twice, and those that came and
-   those that are left are all of them, at every time. */
-static void test_all_numbers(uint32_t first)
-{
-    static bool given[65536];
-    size_t count = 0;
-    struct board b;
-
-    memset(given, 0, sizeof given);
-    board_demonstration(&b);
-    b.node.registers.next_number = first;
-    for (unsigned turn = 0; count < 65536 - first && turn < 65536; turn++) {
-        const size_t came = ask_for_ids(&b, (uint8_t)random_number(), turn % 3 == 0);
-
-        note_ids(b.reply.bytes, came, given);
-        count += came;
-        CHECK(count + (65536 - b.node.registers.next_number) == 65536 - first);
-        if (turn % 64 == 0) {
-            ask_in_vain(&b);
-        }
-    }
-    for (size_t number = 0; number < 65536; number++) {
-        CHECK(given[number] == (number >= first));
-    }
-    for (unsigned byte = 0; byte < 256; byte++) {
-        CHECK(ask_for_ids(&b, (uint8_t)byte, byte % 2 == 0) == 0);
-    }
-    ask_in_vain(&b);
-    board_free(&b);
-}
-
-/* Every byte that asks, while 0 to 9 numbers are left: as many as asked for, exactly what is left among them, or none. */
-static void test_what_is_left(void)
-{
-    struct board b;
-
-    board_demonstration(&b);
-    for (uint32_t left = 0; left <= 9; left++) {
-        for (unsigned byte = 0; byte < 256; byte++) {
-            const size_t asked = byte % 8 == 0 ? 8 : byte % 8;
-
-            for (int whole = 0; whole < 2; whole++) {
-                b.node.registers.next_number = 65536 - left;
-                CHECK(ask_for_ids(&b, (uint8_t)byte, whole != 0) == (asked <= left ? asked : 0));
-            }
-        }
-    }
-    board_free(&b);
-}
-
-/* A request of any length but three: 0x1080, however many are left, since the length is tested first. */
-static void test_id_lengths(void)
-{
-    static const uint32_t numbers[] = {0, 65535, 65536};
-    uint8_t datagram[BUJORELM_DATAGRAM_MAX] = {0x20, 0x8C};
-    struct board b;
-
-    board_demonstration(&b);
-    for (size_t i = 0; i < sizeof numbers / sizeof numbers[0]; i++) {
-        b.node.registers.next_number = numbers[i];
-        for (size_t len = 2; len <= sizeof datagram; len++) {
-            struct bujorelm_registers wanted = b.node.registers;
-
-            random_bytes(datagram + 2, sizeof datagram - 2);
-            if (len == 3) {
-                continue;
-            }
-            CHECK(is_answer(feed_cut(&b, datagram, len, 0x123), BUJORELM_REJECTED, 0, 0, 0x1080, 0));
-            CHECK(is_answer(hand_over(&b, datagram, len), BUJORELM_REJECTED, 0, 0, 0x1080, 0));
-            CHECK(memcmp(&b.node.registers, &wanted, sizeof wanted) == 0);
-        }
-    }
-    CHECK(is_untouched(b.reply.bytes, 0, b.reply.len));
-    board_free(&b);
-}
-
-/* Every other command, and datagrams of another type: whatever they do, they give no number, and the node ID stays. */
-static void test_registers_of_other_commands(void)
-{
-    uint8_t datagram[12];
-    struct board b;
-
-    board_demonstration(&b);
-    b.node.registers.next_number = 0x1234;
-    for (unsigned command = 0; command < 256; command++) {
-        for (size_t len = 2; len <= sizeof datagram; len++) {
-            struct bujorelm_result answer;
-
-            random_bytes(datagram, sizeof datagram);
-            datagram[0] = command == 0x8C ? (uint8_t)(0x21 + len) : 0x20;
-            datagram[1] = (uint8_t)command;
-            answer = hand_over(&b, datagram, len);
-            CHECK(answer.kind != BUJORELM_REPLIED || b.reply.bytes[1] != 0x8D);
-            CHECK(b.node.registers.next_number == 0x1234);
-            CHECK(memcmp(b.node.registers.node_id, demonstration_registers.node_id, 6) == 0);
-        }
-    }
-    board_free(&b);
-}
-
-/* Any bytes in the registers, which lie at the one end of a page or at the other: the next number is the last four of them, the least significant
-   byte first, and over 65,536 it is B10. */
-static void test_any_registers(void)
-{
-    struct board b;
-
-    board_demonstration(&b);
-    for (unsigned turn = 0; turn < 2000; turn++) {
-        uint8_t asked[] = {0x20, 0x8C, (uint8_t)turn};
-        struct bujorelm_registers wanted;
-        struct bujorelm_result answer;
-        uint8_t ids[BUJORELM_REPLY_MIN];
-        uint8_t *last;
-        struct lent l;
-
-        lent_new(&l, turn % 2 == 0);
-        random_bytes(l.registers.bytes, 16);
-        last = l.registers.bytes + 12;
-        /* Mostly within 65,535, now and then 65,536 or a little more. */
-        last[2] = (uint8_t)(turn % 8 == 7 ? 1 : 0);
-        last[3] = (uint8_t)(turn % 50 == 0 ? random_number() : 0);
-        if (turn % 16 == 7) {
-            last[0] = (uint8_t)random_below(2);
-            last[1] = 0;
-        }
-        memcpy(&wanted, l.registers.bytes, 16);
-        answer = feed_lent(&b, &l, header_of(SINGLE, 0x22B, 0x123), asked, sizeof asked);
-        if (last[3] != 0 || last[2] > 1 || (last[2] == 1 && (last[1] != 0 || last[0] != 0))) {
-            CHECK(is_error(answer, BUJORELM_ERROR_B10_NEXT_NUMBER_TOO_HIGH));
-        } else {
-            const size_t len = take_ids(&wanted, (uint8_t)turn, ids);
-
-            CHECK(is_answer_to_ids(answer, len) && memcmp(b.reply.bytes, ids, len) == 0);
-        }
-        CHECK(memcmp(l.registers.bytes, &wanted, 16) == 0);
-        lent_free(&l);
-    }
-    board_free(&b);
-}
-
-/* ---- Spaces that are left out ---- */
-
 /* 0xFD, 0xFE and 0xFF are known where they are left out. */
 static void test_left_out(void)
 {
@@ -1338,9 +1076,8 @@ static void test_left_out(void)
    datagram lacks. */
 static void check_refused_at(struct board *b, uint8_t error, uint8_t position, bool datagrams, const char *word)
 {
-    /* Would be a write, the opening of a datagram, frames that are joined or swallowed, and a request for a unique ID. */
+    /* Would be a write, the opening of a datagram, and frames that are joined or swallowed. */
     static const uint8_t write[] = {0x20, 0x01, 0, 0, 0, 0, 0x77};
-    static const uint8_t one_id[] = {0x20, 0x8C, 1};
     const struct bujorelm_node before = b->node;
     uint8_t *const memory = malloc(b->memory.len + 1);
 
@@ -1352,14 +1089,12 @@ static void check_refused_at(struct board *b, uint8_t error, uint8_t position, b
     CHECK_CASE(is_error_at(feed(b, header_of(FIRST, 0x22B, 0x124), write, sizeof write), error, position), word);
     CHECK_CASE(is_error_at(feed(b, header_of(MIDDLE, 0x22B, 0x123), write, 1), error, position), word);
     CHECK_CASE(is_error_at(feed(b, header_of(LAST, 0x22B, 0x124), NULL, 0), error, position), word);
-    CHECK_CASE(is_error_at(feed(b, header_of(SINGLE, 0x22B, 0x125), one_id, sizeof one_id), error, position), word);
     CHECK_CASE(is_error_at(feed(b, 0, NULL, 0), error, position), word);
     if (datagrams) {
         CHECK_CASE(is_error_at(hand_over(b, write, sizeof write), error, position), word);
-        CHECK_CASE(is_error_at(hand_over(b, one_id, sizeof one_id), error, position), word);
     }
     CHECK_CASE(same_places(&b->node.reception, &before.reception), word);
-    CHECK_CASE(memcmp(&b->node.registers, &before.registers, sizeof before.registers) == 0, word);
+    CHECK_CASE(memcmp(b->node.registers.lock, before.registers.lock, 6) == 0, word);
     CHECK_CASE(memcmp(b->node.pool, before.pool, sizeof before.pool) == 0, word);
     CHECK_CASE(memcmp(b->memory.bytes, memory, b->memory.len) == 0, word);
     CHECK_CASE(is_untouched(b->reply.bytes, 0, b->reply.len), word);
@@ -1377,8 +1112,7 @@ static void check_draft_refused_at(const struct draft *d, size_t flash_len, size
     struct board b;
 
     board_new(&b, d, flash_len, memory_len, reply_len);
-    /* The state is bad as well, and so is the next number: B7 comes after all of these, and B10 after that. No byte of it may change, however
-       old some of it is. */
+    /* The state is bad as well: B7 comes after all the others. No byte of it may change, however old some of it is. */
     for (size_t i = 0; i < BUJORELM_PLACES; i++) {
         b.node.reception.places[i] = (struct bujorelm_place){.held = (uint8_t)(i == 4 ? 0 : 0xAA + i),
                                                              .len = (uint8_t)(70 + i),
@@ -1388,7 +1122,6 @@ static void check_draft_refused_at(const struct draft *d, size_t flash_len, size
                                                              .unused = 0xFF};
     }
     b.node.registers.lock[2] = 9;
-    b.node.registers.next_number = 65537;
     check_refused_at(&b, error, position, true, word);
     board_free(&b);
 }
@@ -1677,35 +1410,6 @@ static void test_bad_swallowed_states(void)
     board_free(&b);
 }
 
-/* The next number: up to 65,536 it is taken, and over that it is B10, behind B7. A lone tick does not ask for it. */
-static void test_next_numbers(void)
-{
-    static const uint32_t good[] = {0, 1, 0xFF, 0x100, 65535, 65536};
-    static const uint32_t bad[] = {65537, 65538, 65792, 0x11000, 0x1FFFF, 0x20000, 0x1000000, 0x1000001, 0x80000000, 0xFFFF0000, 0xFFFFFFFF};
-    struct board b;
-
-    board_demonstration(&b);
-    for (size_t i = 0; i < sizeof good / sizeof good[0]; i++) {
-        b.node.registers.next_number = good[i];
-        check_good_state(&b, "a good number");
-        CHECK(is_answer(feed(&b, 0, NULL, 0), BUJORELM_IGNORED, 0, 0, 0, 0));
-        CHECK(is_update_complete(hand_over(&b, (const uint8_t *)"\x20\xA8", 2)));
-        CHECK(b.node.registers.next_number == good[i]);
-    }
-    for (size_t i = 0; i < sizeof bad / sizeof bad[0]; i++) {
-        b.node.reception.places[3] = (struct bujorelm_place){.held = 1, .len = 72, .source = 0x123, .tick = b.tick};
-        b.node.registers.next_number = bad[i];
-        check_refused(&b, BUJORELM_ERROR_B10_NEXT_NUMBER_TOO_HIGH, true, "a number over 65,536");
-        CHECK(is_error(bujorelm_node_check(&b.node), BUJORELM_ERROR_B10_NEXT_NUMBER_TOO_HIGH));
-        CHECK(is_joined(call_tick(&b)));
-        /* With a bad state it is B7. The call for a whole datagram is lent no state. */
-        b.node.reception.places[3].len = 73;
-        check_bad_state(&b, "a bad state and a number over 65,536");
-        CHECK(is_error(hand_over(&b, (const uint8_t *)"\x20\xA8", 2), BUJORELM_ERROR_B10_NEXT_NUMBER_TOO_HIGH));
-    }
-    board_free(&b);
-}
-
 /* ---- Bytes that say yes or no, and bytes that mean nothing ---- */
 
 /* Sets a byte of a space by its index, since the one at index 3 has no name. */
@@ -1802,7 +1506,7 @@ static void test_table_bytes(void)
 static void test_table_sizes(void)
 {
     struct bujorelm_space spaces[18];
-    struct bujorelm_registers registers = {.next_number = 0};
+    struct bujorelm_registers registers = {{0}};
     uint8_t memory[1] = {0x5E};
     uint8_t reply[BUJORELM_REPLY_MIN];
     struct bujorelm_result answer;
@@ -2450,7 +2154,6 @@ static void check_drops_nothing(uint8_t error, uint8_t position, const char *wor
                                                              .unused = 8};
     }
     b.node.description.count = error == 11 ? 17 : d.count;
-    b.node.registers.next_number = error == 10 ? 65537 : 65536;
     check_refused_at(&b, error, position, true, word);
     /* A lone tick asks nothing of the board but its state, and drops them all. */
     CHECK_CASE(is_joined(call_tick(&b)) && is_zero(&b.node.reception, sizeof b.node.reception), word);
@@ -2459,7 +2162,7 @@ static void check_drops_nothing(uint8_t error, uint8_t position, const char *wor
 
 static void test_refused_calls_drop_nothing(void)
 {
-    static const uint8_t errors[] = {11, 12, 13, 14, 6, 10};
+    static const uint8_t errors[] = {11, 12, 13, 14, 6};
 
     for (size_t i = 0; i < sizeof errors; i++) {
         check_drops_nothing(errors[i], NO_POSITION, "eight that are too old");
@@ -3699,15 +3402,12 @@ static void test_node_start(void)
 
     memset(&node, UNTOUCHED, sizeof node);
     bujorelm_node_start(&node, &demonstration_description, demonstration_flash, sizeof demonstration_flash, memory, sizeof memory);
-    CHECK(memcmp(&node.registers, zeros, 12) == 0 && memcmp(&node.reception, zeros, sizeof node.reception) == 0);
+    CHECK(memcmp(&node.registers, zeros, sizeof node.registers) == 0 && memcmp(&node.reception, zeros, sizeof node.reception) == 0);
     CHECK(memcmp(node.pool, zeros, sizeof node.pool) == 0);
     CHECK(is_untouched(node.reply, 0, sizeof node.reply) && is_untouched((const uint8_t *)node.frames, 0, sizeof node.frames));
     CHECK(node.description.alias == 0x22B && node.description.write_lengths == 0xF2 && node.description.count == 4);
     CHECK(node.description.spaces == demonstration_spaces && node.flash == demonstration_flash && node.memory == memory);
     CHECK(node.flash_len == 16 && node.memory_len == 48 && bujorelm_node_check(&node).kind == BUJORELM_IGNORED);
-    /* Nobody has said which number is the next: none is given. */
-    CHECK(node.registers.next_number == 65536);
-    CHECK(is_answer(bujorelm_node_handle_datagram(&node, (const uint8_t *)"\x20\x8C\x01", 3), BUJORELM_REJECTED, 0, 0, 0x1000, 0));
 }
 
 /* The numbers of a result, as the types that a switch takes. */
@@ -3772,12 +3472,10 @@ static void test_sentences(void)
         {5, "B5: a space has the number of an earlier space", "has the number of an earlier space"},
         {6, "B6: the reply buffer has fewer than 72 bytes", NULL},
         {7, "B7: the reception state holds what no call has left there", NULL},
-        {10, "B10: the next event number is over 65,536", NULL},
         /* Numbers that no call gives today. */
         {0, "B0: a mistake that this header does not know", NULL},
         {1, "B1: a mistake that this header does not know", NULL},
-        {8, "B8: a mistake that this header does not know", NULL},
-        {9, "B9: a mistake that this header does not know", NULL},
+        {10, "B10: a mistake that this header does not know", NULL},
         {255, "B255: a mistake that this header does not know", NULL},
     };
 
@@ -3877,7 +3575,7 @@ static struct draft random_draft(size_t *flash_len, size_t *memory_len)
 static size_t random_datagram(const struct draft *d, uint8_t *bytes)
 {
     static const uint8_t commands[] = {0x00, 0x01, 0x02, 0x03, 0x08, 0x09, 0x0A, 0x0B, 0x40, 0x41, 0x42,
-                                       0x43, 0x80, 0x84, 0x88, 0x8C, 0xA8, 0xA8, 0x44, 0x60, 0x50, 0xA9};
+                                       0x43, 0x80, 0x84, 0x88, 0xA8, 0xA8, 0x44, 0x60, 0x50, 0xA9};
     const uint8_t drawn = commands[random_below(sizeof commands)];
     const struct bujorelm_space *const s = &d->spaces[random_below((uint32_t)d->count + 1) % BUJORELM_SPACES_MAX];
     /* Often in the form that names this space. */
@@ -3917,8 +3615,6 @@ static size_t random_datagram(const struct draft *d, uint8_t *bytes)
         }
     } else if (command == 0x84) {
         bytes[2] = s->number;
-        len = 3;
-    } else if (command == 0x8C) {
         len = 3;
     } else if (command == 0x88) {
         if (random_below(2) == 0) {
@@ -4166,12 +3862,8 @@ static unsigned long drops_at_ticks;
 
 /* How often each answer came, so that random frames that stopped short of one would show. */
 static unsigned long kinds_seen[BUJORELM_UPDATE_COMPLETE + 1];
-static const uint16_t codes[] = {0x1000, 0x1041, 0x1042, 0x1080, 0x1081, 0x1082, 0x1083, 0x2000, 0x2020, 0x2040};
-static unsigned long codes_seen[sizeof codes / sizeof codes[0]];
-
-/* How many event numbers were given, and how often one that was over 65,536 was handed in. */
-static unsigned long numbers_given;
-static unsigned long numbers_refused;
+static unsigned long codes_seen[9];
+static const uint16_t codes[9] = {0x1041, 0x1042, 0x1080, 0x1081, 0x1082, 0x1083, 0x2000, 0x2020, 0x2040};
 
 static void see(struct bujorelm_result answer, const uint8_t *reply)
 {
@@ -4185,9 +3877,7 @@ static void see(struct bujorelm_result answer, const uint8_t *reply)
     if (answer.kind == BUJORELM_REPLIED && (reply[1] & 0xBC) == 0x18) {
         code = (uint16_t)(reply[answer.reply_len - 2] << 8 | reply[answer.reply_len - 1]);
     }
-    numbers_given += answer.kind == BUJORELM_REPLIED && reply[1] == 0x8D ? (answer.reply_len - 2u) / 8 : 0;
-    numbers_refused += answer.kind == BUJORELM_REFUSED && answer.error == BUJORELM_ERROR_B10_NEXT_NUMBER_TOO_HIGH;
-    for (size_t i = 0; i < sizeof codes / sizeof codes[0]; i++) {
+    for (size_t i = 0; i < 9; i++) {
         if (codes[i] == code) {
             codes_seen[i]++;
         }
@@ -4229,39 +3919,6 @@ static void random_tick(struct board *b, struct book *books, uint64_t time)
     }
 }
 
-/* Registers with any lock and node ID. The next number is anywhere, near the end, or now and then over it. */
-static struct bujorelm_registers random_registers(void)
-{
-    const uint32_t sort = random_below(20);
-    struct bujorelm_registers registers;
-
-    random_bytes((uint8_t *)&registers, sizeof registers);
-    if (sort != 0) {
-        registers.next_number = sort < 10 ? random_below(65537) : 65536 - random_below(40);
-    }
-    return registers;
-}
-
-/* What a finished datagram may do to the registers: nothing but by Lock/Reserve and by Get Unique ID, where they have a reply. */
-static void check_registers(const struct bujorelm_registers *before, const struct bujorelm_registers *after, const struct expected *e,
-                            struct bujorelm_result answer, const uint8_t *reply)
-{
-    const bool asks = e->len == 3 && memcmp(e->bytes, "\x20\x8C", 2) == 0;
-    struct bujorelm_registers wanted = *before;
-    uint8_t ids[BUJORELM_REPLY_MIN];
-
-    if (answer.kind == BUJORELM_REPLIED && e->bytes[1] == 0x88) {
-        memcpy(wanted.lock, after->lock, 6);
-    }
-    if (asks) {
-        const size_t len = take_ids(&wanted, e->bytes[2], ids);
-
-        CHECK(is_answer_to_ids(answer, len) && (len == 0 || memcmp(reply, ids, len) == 0));
-    }
-    CHECK(asks || !(answer.kind == BUJORELM_REPLIED && reply[1] == 0x8D));
-    CHECK(memcmp(after, &wanted, sizeof wanted) == 0);
-}
-
 static void random_session(unsigned long frames)
 {
     size_t flash_len;
@@ -4276,7 +3933,7 @@ static void random_session(unsigned long frames)
     struct guarded payload;
     uint8_t flash[256];
     uint8_t memory[256];
-    struct bujorelm_registers registers = random_registers();
+    uint8_t lock[6];
     struct bujorelm_result refused;
 
     memset(books, 0, sizeof books);
@@ -4288,10 +3945,9 @@ static void random_session(unsigned long frames)
     random_bytes(b.node.pool, sizeof b.node.pool);
     memcpy(flash, b.flash.bytes, flash_len);
     memcpy(memory, b.memory.bytes, memory_len);
-    b.node.registers = registers;
+    memcpy(lock, b.node.registers.lock, 6);
     refused = bujorelm_node_check(&b.node);
-    CHECK(registers.next_number <= 65536 || refused.kind == BUJORELM_REFUSED);
-    if ((refused.kind != BUJORELM_REFUSED || refused.error == BUJORELM_ERROR_B10_NEXT_NUMBER_TOO_HIGH) && reply_len < 72) {
+    if (refused.kind != BUJORELM_REFUSED && reply_len < 72) {
         refused = (struct bujorelm_result){.kind = BUJORELM_REFUSED,
                                            .error = BUJORELM_ERROR_B6_REPLY_BUFFER_TOO_SHORT,
                                            .position = NO_POSITION};
@@ -4351,12 +4007,13 @@ static void random_session(unsigned long frames)
             if (!e.finished) {
                 CHECK(is_answer(answer, e.kind, 0, 0, e.kind == BUJORELM_TRANSPORT_REFUSAL ? e.code : 0, 0));
             } else {
-                /* The datagram that the book finishes, handed over whole, gives the same answer, reply, memory and registers. */
-                struct bujorelm_registers held = registers;
+                /* The datagram that the book finishes, handed over whole, gives the same answer, reply, memory and lock. */
+                struct bujorelm_registers held;
                 uint8_t reply[80];
                 uint8_t old[256];
                 struct bujorelm_result whole;
 
+                memcpy(held.lock, lock, 6);
                 memcpy(old, memory, memory_len);
                 memset(reply, UNTOUCHED, sizeof reply);
                 bujorelm_handle_datagram(d.alias, d.write_lengths, d.spaces, bujorelm_spaces_size(d.count), flash, flash_len, memory,
@@ -4367,7 +4024,7 @@ static void random_session(unsigned long frames)
                 written = answer.reply_len;
                 CHECK(written <= 72 && memcmp(reply, b.reply.bytes, reply_len) == 0);
                 CHECK((answer.kind == BUJORELM_REPLIED) == (written != 0));
-                /* Only a write changes memory, where it says so and nowhere else. */
+                /* Only a write changes memory, where it says so and nowhere else; only a lock command changes the lock. */
                 if (answer.kind == BUJORELM_WRITTEN) {
                     const struct range range = written_range(d.spaces, d.count, e.bytes, e.len);
 
@@ -4378,8 +4035,10 @@ static void random_session(unsigned long frames)
                     CHECK(memcmp(memory, old, memory_len) == 0 && answer.changed_at == 0 && answer.changed_len == 0);
                 }
                 CHECK((answer.kind == BUJORELM_UPDATE_COMPLETE) == (e.len == 2 && memcmp(e.bytes, "\x20\xA8", 2) == 0));
-                check_registers(&registers, &held, &e, answer, reply);
-                registers = held;
+                if (answer.kind != BUJORELM_REPLIED || e.bytes[1] != 0x88) {
+                    CHECK(memcmp(held.lock, lock, 6) == 0);
+                }
+                memcpy(lock, held.lock, 6);
             }
             for (size_t i = 0; i < SOURCES; i++) {
                 CHECK(state_has(&b.node, aliases[i], &books[i]));
@@ -4395,7 +4054,7 @@ static void random_session(unsigned long frames)
             }
         }
         CHECK(memcmp(b.memory.bytes, memory, memory_len) == 0);
-        CHECK(memcmp(&b.node.registers, &registers, sizeof registers) == 0);
+        CHECK(memcmp(b.node.registers.lock, lock, 6) == 0);
         CHECK(is_untouched(b.reply.bytes, written, reply_len));
     }
     guarded_free(&payload);
@@ -4417,18 +4076,12 @@ int main(int argc, char **argv)
     test_changed();
     test_result_bytes();
     test_lock();
-    test_all_numbers(step == 1 ? 0 : 61440);
-    test_what_is_left();
-    test_id_lengths();
-    test_registers_of_other_commands();
-    test_any_registers();
     test_left_out();
     test_call_errors();
     test_limits_together();
     test_positions();
     test_bad_states();
     test_bad_swallowed_states();
-    test_next_numbers();
     test_table_bytes();
     test_table_sizes();
     test_place_bytes();
@@ -4480,10 +4133,9 @@ int main(int argc, char **argv)
         for (size_t i = 0; i <= BUJORELM_UPDATE_COMPLETE; i++) {
             CHECK(kinds_seen[i] >= 100);
         }
-        for (size_t i = 0; i < sizeof codes / sizeof codes[0]; i++) {
+        for (size_t i = 0; i < 9; i++) {
             CHECK(codes_seen[i] >= 10);
         }
-        CHECK(numbers_given >= 100 && numbers_refused >= 100);
         CHECK(drops_at_frames >= 100 && drops_at_ticks >= 100 && swallowed_drops >= 20);
         for (size_t i = 0; i < 4; i++) {
             CHECK(swallowed_seen[i] >= 50);

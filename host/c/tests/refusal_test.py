@@ -21,7 +21,6 @@ REFUSALS = {
     "2 0": "B2: space 0, counted from 0, has its lowest address above its highest",
     "12 255": "B12: memory has more than 65,536 bytes",
     "7 255": "B7: the reception state holds what no call has left there",
-    "10 255": "B10: the next event number is over 65,536",
 }
 
 OPTIONS = b":X1A22B123N2080;\n"
@@ -69,9 +68,9 @@ def check_frames():
         expect(run("socketcan-refusing", 0, refusal, ("none", "none")), (1, "", f"socketcan: {sentence}\n"), f"socketcan with {refusal}")
         # At the second frame of two: the first is answered.
         expect(run("host-refusing", 2, refusal), (0, OPTIONS_OUT, f"host: {sentence}\n"), f"the host with {refusal} at the second frame")
-        # At the second frame of five, at all behind it and at the lone tick.
+        # At the second frame of four, at all behind it and at the lone tick.
         status, out, err = run("example-refusing", 2, refusal, ticks=0)
-        expect((status, out.count("\n"), err), (0, 2, 5 * f"{sentence}\n"), f"the example with {refusal} at the second frame")
+        expect((status, out.count("\n"), err), (0, 2, 4 * f"{sentence}\n"), f"the example with {refusal} at the second frame")
 
 
 def main():

@@ -106,8 +106,6 @@ static void start(void)
     d.count = BUJORELM_SPACES_MAX;
     d.spaces = spaces;
     bujorelm_node_start(&subject.node, &d, subject.flash, sizeof subject.flash, subject.memory, sizeof subject.memory);
-    /* Few are left, so that some requests for unique IDs are replied to and some are rejected. */
-    subject.node.registers.next_number = BUJORELM_EVENT_NUMBERS - 600;
     CHECK(bujorelm_node_check(&subject.node).kind == BUJORELM_IGNORED);
 }
 
@@ -140,7 +138,6 @@ static void make_datagram(uint8_t command)
         len = 2;
         break;
     case 0x84:
-    case 0x8C:
         len = 3;
         break;
     case 0x88:
@@ -240,7 +237,7 @@ static void walk(bool lines)
 int main(int argc, char **argv)
 {
     static const uint8_t commands[] = {0x00, 0x01, 0x02, 0x03, 0x08, 0x09, 0x0A, 0x0B, 0x40, 0x41, 0x42,
-                                       0x43, 0x80, 0x84, 0x88, 0x8C, 0xA8, 0x44, 0xFF};
+                                       0x43, 0x80, 0x84, 0x88, 0xA8, 0x44, 0xFF};
     const char *const level = argc > 1 ? argv[1] : "";
 
     start_painting();

@@ -4,24 +4,6 @@
 #include <cstdio>
 #include <cstring>
 
-// A request for eight unique IDs, which is written as zero, one for too many, and a reply with two.
-static bool asks_for_ids()
-{
-    static const uint8_t wanted[] = {0x20, 0x8C, 0x00};
-    static const uint8_t ids[18] = {0x20, 0x8D, 0x05, 0x01, 0x01, 0x01, 0x02, 0x2B, 0xFF, 0xFE, 0x05, 0x01, 0x01, 0x01, 0x02, 0x2B, 0xFF, 0xFF};
-    uint8_t command[BUJORELM_COMMAND_MIN];
-    bujorelm_composed composed;
-    bujorelm_composed refused;
-    bujorelm_reply reply;
-
-    bujorelm_compose_unique_ids(8, command, sizeof command, &composed);
-    bujorelm_compose_unique_ids(9, command, sizeof command, &refused);
-    bujorelm_read_reply(ids, sizeof ids, &reply);
-    return composed.refusal == BUJORELM_REFUSAL_NONE && composed.len == 3 && std::memcmp(command, wanted, sizeof wanted) == 0 &&
-           refused.refusal == BUJORELM_REFUSAL_W1 && reply.kind == BUJORELM_REPLY_UNIQUE_IDS && reply.bytes.given &&
-           reply.bytes.start == 2 && reply.bytes.len == 16;
-}
-
 // One change of two bytes that differ, and two pairs put together.
 static bool changes_bits()
 {
@@ -84,10 +66,6 @@ int main()
     }
     if (!changes_bits()) {
         std::puts("tool_header: the library does not change bits in C++");
-        return 1;
-    }
-    if (!asks_for_ids()) {
-        std::puts("tool_header: the library does not ask for unique IDs in C++");
         return 1;
     }
     std::puts("tool_header: works in C++");

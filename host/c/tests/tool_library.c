@@ -15,10 +15,9 @@
 
 /* ---- Requests ---- */
 
-enum sort { READ, WRITE, MASKED, OPTIONS, INFORMATION, LOCK, UNIQUE_IDS, UPDATE_COMPLETE, SORTS };
+enum sort { READ, WRITE, MASKED, OPTIONS, INFORMATION, LOCK, UPDATE_COMPLETE, SORTS };
 
-/* A request for any of the functions that compose: a read and a request for unique IDs have a count, and write, masked write and lock have
-   bytes. */
+/* A request for any of the functions that compose: a read has a count, and write, masked write and lock have bytes. */
 struct request {
     enum sort sort;
     uint8_t space;
@@ -51,9 +50,6 @@ static struct bujorelm_composed compose(const struct request *r, uint8_t *buffer
     case LOCK:
         bujorelm_compose_lock(r->bytes, r->len, buffer, len, composed);
         break;
-    case UNIQUE_IDS:
-        bujorelm_compose_unique_ids(r->count, buffer, len, composed);
-        break;
     case UPDATE_COMPLETE:
     case SORTS:
     default:
@@ -75,8 +71,6 @@ static bool is_out_of_range(const struct request *r)
         return r->len < 2 || r->len > 64 || r->len % 2 == 1;
     case LOCK:
         return r->len != 6;
-    case UNIQUE_IDS:
-        return r->count < 1 || r->count > 8;
     default:
         return false;
     }
@@ -85,7 +79,7 @@ static bool is_out_of_range(const struct request *r)
 /* The bytes of a command, made here and not by the library. */
 static size_t bytes_of(const struct request *r, uint8_t *bytes)
 {
-    static const uint8_t commands[SORTS] = {0x40, 0x00, 0x08, 0x80, 0x84, 0x88, 0x8C, 0xA8};
+    static const uint8_t commands[SORTS] = {0x40, 0x00, 0x08, 0x80, 0x84, 0x88, 0xA8};
     const uint8_t form = r->space < 0xFD ? 0 : (uint8_t)(r->space - 0xFC);
     size_t len = 0;
 
@@ -103,9 +97,6 @@ static size_t bytes_of(const struct request *r, uint8_t *bytes)
     }
     if (r->sort == READ) {
         bytes[len++] = (uint8_t)r->count;
-    }
-    if (r->sort == UNIQUE_IDS) {
-        bytes[len++] = (uint8_t)(r->count == 8 ? 0 : r->count);
     }
     if (r->sort == WRITE || r->sort == MASKED || r->sort == LOCK) {
         memcpy(bytes + len, r->bytes, r->len);
@@ -222,28 +213,6 @@ static void test_counts(void)
     }
 }
 
-/* Every count of unique IDs in hex, and the counts that are W1: neither the low byte of one nor its low three bits are taken for it. */
-static void test_unique_ids(void)
-{
-    static const char *const commands[] = {"20 8C 01", "20 8C 02", "20 8C 03", "20 8C 04", "20 8C 05", "20 8C 06", "20 8C 07", "20 8C 00"};
-    static const size_t wrong[] = {0,     9,     10,          15,          16,          17,          64,           255,         256,
-                                   257,   264,   511,         65535,       65536,       65537,       0xFFFFFFFF,   0x100000000, 0x100000001,
-                                   0x100000008, 0x800000008, (SIZE_MAX >> 1) + 2, SIZE_MAX - 7, SIZE_MAX - 1, SIZE_MAX};
-    uint8_t wanted[8];
-    uint8_t got[72];
-
-    for (size_t count = 1; count <= 8; count++) {
-        const size_t len = from_hex(commands[count - 1], wanted);
-
-        bujorelm_compose_unique_ids(count, got, sizeof got, lent_composed());
-        CHECK_CASE(given_composed().len == len && memcmp(got, wanted, len) == 0, commands[count - 1]);
-        check_request((struct request){.sort = UNIQUE_IDS, .count = count});
-    }
-    for (size_t i = 0; i < sizeof wrong / sizeof wrong[0]; i++) {
-        check_request((struct request){.sort = UNIQUE_IDS, .count = wrong[i]});
-    }
-}
-
 /* Data, pairs and IDs of every length from none up, those over 64 among them. */
 static void test_lengths(void)
 {
@@ -300,7 +269,7 @@ static void random_requests(unsigned long count)
         check_in(&(struct request){.sort = (enum sort)random_below(SORTS),
                                    .space = (uint8_t)random_number(),
                                    .address = random_number(),
-                                   .count = random_below(random_below(2) == 0 ? 80 : 12),
+                                   .count = random_below(80),
                                    .bytes = bytes,
                                    .len = random_below(3) == 0 ? 6 : random_below(80)},
                  65 + random_below(20), random_below(2) == 0);
@@ -371,7 +340,6 @@ static void meeting_start(struct meeting *m)
 {
     memset(m, 0, sizeof *m);
     bujorelm_node_start(&m->node, &demonstration_description, demonstration_flash, sizeof demonstration_flash, m->memory, sizeof m->memory);
-    m->node.registers = demonstration_registers;
 }
 
 /* What the board makes of a request. */
@@ -451,34 +419,6 @@ static void test_meeting_about_the_board(void)
     }
 }
 
-/* Each request gets as many IDs as it asks for, one behind the other, up to the last; then it is rejected. */
-static void test_meeting_about_unique_ids(void)
-{
-    struct meeting m;
-    struct bujorelm_result result;
-    struct bujorelm_rejection rejection;
-    uint8_t id[8] = {0x05, 0x01, 0x01, 0x01, 0x02, 0x2B, 0xFF, 0xD8};
-
-    meeting_start(&m);
-    m.node.registers.next_number = 0xFFD8;
-    for (size_t count = 1; count <= 8; count++) {
-        const struct bujorelm_reply reply = reply_to(&m, (struct request){.sort = UNIQUE_IDS, .count = count});
-
-        CHECK(reply.kind == BUJORELM_REPLY_UNIQUE_IDS && same_bytes(reply.bytes, at(2, 8 * count)));
-        for (size_t i = 0; i < count; i++) {
-            CHECK(memcmp(m.node.reply + 2 + 8 * i, id, sizeof id) == 0);
-            id[7]++;
-        }
-    }
-    CHECK(m.node.registers.next_number == 0xFFFC);
-    result = ask(&m, (struct request){.sort = UNIQUE_IDS, .count = 5});
-    CHECK(result.kind == BUJORELM_REJECTED && m.node.registers.next_number == 0xFFFC);
-    rejection = read_rejected((const uint8_t[]){(uint8_t)(result.code >> 8), (uint8_t)result.code}, 2);
-    CHECK(rejection.code == BUJORELM_CODE_PERMANENT);
-    CHECK(reply_to(&m, (struct request){.sort = UNIQUE_IDS, .count = 4}).bytes.len == 32);
-    CHECK(ask(&m, (struct request){.sort = UNIQUE_IDS, .count = 1}).code == 0x1000);
-}
-
 /* No command of the writer is rejected by the board, and whatever it replies is read. */
 static void random_meetings(unsigned long count)
 {
@@ -490,14 +430,11 @@ static void random_meetings(unsigned long count)
         static const uint8_t spaces[] = {0x00, 0x10, 0x11, 0xFC, 0xFD, 0xFE, 0xFF};
         const enum sort sort = (enum sort)random_below(SORTS);
         const size_t len = sort == LOCK ? 6 : sort == MASKED ? 2 + 2 * random_below(32) : 1 + random_below(64);
-        const size_t counted = 1 + random_below(sort == UNIQUE_IDS ? 8 : 64);
-        const struct request r = {sort, spaces[random_below(sizeof spaces)], random_below(0x120), counted, bytes, len};
+        const struct request r = {sort, spaces[random_below(sizeof spaces)], random_below(0x120), 1 + random_below(64), bytes, len};
         struct bujorelm_result result;
         struct bujorelm_reply reply;
 
         random_bytes(bytes, sizeof bytes);
-        /* Enough is left for every request. */
-        m.node.registers.next_number = random_below(65536 - 7);
         result = ask(&m, r);
         CHECK(result.kind == BUJORELM_WRITTEN || result.kind == BUJORELM_UPDATE_COMPLETE || result.kind == BUJORELM_REPLIED);
         reply = read_reply(m.node.reply, result.reply_len);
@@ -505,8 +442,6 @@ static void random_meetings(unsigned long count)
         if (reply.kind != BUJORELM_REPLY_NONE && (sort == READ || sort == WRITE || sort == MASKED)) {
             CHECK(reply.space == r.space && reply.address == r.address && (reply.kind <= BUJORELM_REPLY_READ_FAILURE) == (sort == READ));
         }
-        CHECK((reply.kind == BUJORELM_REPLY_UNIQUE_IDS) == (sort == UNIQUE_IDS));
-        CHECK(sort != UNIQUE_IDS || same_bytes(reply.bytes, at(2, 8 * counted)));
     }
 }
 
@@ -785,7 +720,7 @@ static void random_joins(unsigned long count)
 
 static void test_version(void)
 {
-    CHECK(bujorelm_tool_version() == 0x00030001 && BUJORELM_TOOL_VERSION == 0x00030001 && bujorelm_tool_version_fits());
+    CHECK(bujorelm_tool_version() == 0x00030000 && BUJORELM_TOOL_VERSION == 0x00030000 && bujorelm_tool_version_fits());
     CHECK(BUJORELM_COMMAND_MIN == 72 && BUJORELM_PAIRS_MIN == 64 && BUJORELM_RECEIVED_OK_MAX == 1 && BUJORELM_REJECTED_MAX == 66);
 }
 
@@ -797,7 +732,6 @@ int main(int argc, char **argv)
     test_command_bytes();
     test_lock_bytes();
     test_counts();
-    test_unique_ids();
     test_lengths();
     test_no_buffer();
     test_every_space();
@@ -806,7 +740,6 @@ int main(int argc, char **argv)
     test_rejected();
     test_meeting();
     test_meeting_about_the_board();
-    test_meeting_about_unique_ids();
     random_meetings(count);
     test_join();
     test_join_refusals();

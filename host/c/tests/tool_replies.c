@@ -197,36 +197,6 @@ static void test_lock(void)
     check_reply("20 8A", no_reply);
 }
 
-/* Unique IDs: 1 to 8 of eight bytes, whatever the bytes are, and no other length. */
-static void test_unique_ids(void)
-{
-    uint8_t datagram[80] = {0x20, 0x8D};
-
-    for (size_t len = 2; len <= sizeof datagram; len++) {
-        const size_t bytes = len - 2;
-        const bool whole = bytes == 8 || bytes == 16 || bytes == 24 || bytes == 32 || bytes == 40 || bytes == 48 || bytes == 56 || bytes == 64;
-        const struct bujorelm_reply wanted = {.kind = BUJORELM_REPLY_UNIQUE_IDS, .bytes = {.given = true, .start = 2, .len = bytes}};
-
-        for (unsigned turn = 0; turn < 4; turn++) {
-            struct bujorelm_reply got;
-
-            memset(datagram + 2, turn == 0 ? 0x00 : 0xFF, bytes);
-            if (turn >= 2) {
-                random_bytes(datagram + 2, bytes);
-            }
-            got = read_reply(datagram, len);
-            CHECK(same_reply(&got, whole ? &wanted : &no_reply));
-        }
-    }
-    check_reply("20 8D 05010101022B0007", (struct bujorelm_reply){.kind = BUJORELM_REPLY_UNIQUE_IDS, .bytes = at(2, 8)});
-    check_reply("20 8D 05010101022BFFFE 05010101022BFFFF", (struct bujorelm_reply){.kind = BUJORELM_REPLY_UNIQUE_IDS, .bytes = at(2, 16)});
-    check_reply("20 8D 05010101022B00", no_reply);
-    check_reply("20 8D 05010101022B000700", no_reply);
-    check_reply("20 8D", no_reply);
-    /* The command itself is no reply. */
-    check_reply("20 8C 05010101022B0007", no_reply);
-}
-
 /* ---- Lengths ---- */
 
 /* A reply whose data or text, with its zero, begins at `head` and has so many bytes: none is no data, and no text. */
@@ -286,8 +256,7 @@ static void check_byte_0(const char *hex)
 static void check_command(uint8_t command)
 {
     const uint8_t no_form = command & 0xF4; /* without the bits for a failure and for the space */
-    const bool known = no_form == 0x10 || no_form == 0x50 || command == 0x82 || command == 0x86 || command == 0x87 || command == 0x8A ||
-                       command == 0x8D;
+    const bool known = no_form == 0x10 || no_form == 0x50 || command == 0x82 || command == 0x86 || command == 0x87 || command == 0x8A;
     const uint8_t datagram[80] = {0x20, command};
 
     for (size_t len = 0; len <= sizeof datagram && !known; len++) {
@@ -322,7 +291,6 @@ static void test_no_reply(void)
     check_byte_0("20 86 11 00000000 00");
     check_byte_0("20 87 10 0000010F 00");
     check_byte_0("20 8A 0501010118AB");
-    check_byte_0("20 8D 05010101022B0007");
     for (unsigned command = 0; command < 256; command++) {
         check_command((uint8_t)command);
     }
@@ -385,11 +353,6 @@ static bool other_fields(const uint8_t *d, size_t len, struct bujorelm_reply *r)
         r->bytes = at(2, 6);
         return len == 8;
     }
-    if (d[1] == 0x8D) {
-        r->kind = BUJORELM_REPLY_UNIQUE_IDS;
-        r->bytes = at(2, len - 2);
-        return len % 8 == 2 && len >= 10 && len <= 66;
-    }
     if (d[1] == 0x82 && len >= 6) {
         r->kind = BUJORELM_REPLY_OPTIONS;
         r->options = (struct bujorelm_options){(uint16_t)(d[2] << 8 | d[3]), d[4], d[5], len > 6, len > 6 ? d[6] : 0};
@@ -421,7 +384,7 @@ static struct bujorelm_reply expected_reply(const uint8_t *d, size_t len)
 static size_t random_datagram(uint8_t *datagram)
 {
     static const uint8_t commands[] = {0x50, 0x51, 0x52, 0x53, 0x58, 0x59, 0x5A, 0x5B, 0x10, 0x11, 0x12,
-                                       0x13, 0x18, 0x19, 0x1A, 0x1B, 0x82, 0x86, 0x87, 0x8A, 0x8D, 0x54};
+                                       0x13, 0x18, 0x19, 0x1A, 0x1B, 0x82, 0x86, 0x87, 0x8A, 0x54};
     const size_t len = random_below(4) == 0 ? random_below(80) : 6 + random_below(9);
 
     random_bytes(datagram, 80);
@@ -435,7 +398,7 @@ static size_t random_datagram(uint8_t *datagram)
 
 static void random_replies(unsigned long count)
 {
-    unsigned long seen[BUJORELM_REPLY_UNIQUE_IDS + 1] = {0};
+    unsigned long seen[BUJORELM_REPLY_LOCK + 1] = {0};
 
     for (unsigned long i = 0; i < count; i++) {
         uint8_t datagram[80];
@@ -463,7 +426,6 @@ int main(int argc, char **argv)
     test_information(true);
     test_information(false);
     test_lock();
-    test_unique_ids();
     test_lengths();
     test_no_reply();
     random_replies(count);

@@ -27,7 +27,6 @@ static const struct {
     {"bujorelm_compose_options", call_compose_options},
     {"bujorelm_compose_information", call_compose_information},
     {"bujorelm_compose_lock", call_compose_lock},
-    {"bujorelm_compose_unique_ids", call_compose_unique_ids},
     {"bujorelm_compose_update_complete", call_compose_update_complete},
     {"bujorelm_read_received_ok", call_read_received_ok},
     {"bujorelm_read_rejected", call_read_rejected},
@@ -46,7 +45,7 @@ static size_t most[CALLS];
    send at once. */
 static void make_subject(size_t len)
 {
-    static const uint8_t commands[] = {0x50, 0x53, 0x58, 0x5A, 0x10, 0x11, 0x18, 0x19, 0x82, 0x86, 0x87, 0x8A, 0x8D, 0x44};
+    static const uint8_t commands[] = {0x50, 0x53, 0x58, 0x5A, 0x10, 0x11, 0x18, 0x19, 0x82, 0x86, 0x87, 0x8A, 0x44};
 
     subject.space = (uint8_t)(random_below(2) == 0 ? 0x10 : 0xFD);
     subject.address = random_number();

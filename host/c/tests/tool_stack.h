@@ -45,7 +45,6 @@ void call_compose_masked_write(void);
 void call_compose_options(void);
 void call_compose_information(void);
 void call_compose_lock(void);
-void call_compose_unique_ids(void);
 void call_compose_update_complete(void);
 void call_read_received_ok(void);
 void call_read_rejected(void);

@@ -33,11 +33,6 @@ void call_compose_lock(void)
     bujorelm_compose_lock(subject.bytes, subject.len, subject.buffer, subject.buffer_len, &subject.composed);
 }
 
-void call_compose_unique_ids(void)
-{
-    bujorelm_compose_unique_ids(subject.count, subject.buffer, subject.buffer_len, &subject.composed);
-}
-
 void call_compose_update_complete(void)
 {
     bujorelm_compose_update_complete(subject.buffer, subject.buffer_len, &subject.composed);

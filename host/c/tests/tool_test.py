@@ -57,9 +57,6 @@ COMMANDS = {
     "lock 05.01.01.01.18.AB": ":X1A22B456N20880501010118AB;\n",
     "lock 0501010118ab": ":X1A22B456N20880501010118AB;\n",
     "release": ":X1A22B456N2088000000000000;\n",
-    "events 1": ":X1A22B456N208C01;\n",
-    "events 0x07": ":X1A22B456N208C07;\n",
-    "events 8": ":X1A22B456N208C00;\n",
     "done": ":X1A22B456N20A8;\n",
     "--board 0x123 --alias 1 done": ":X1A123001N20A8;\n",
     "--alias 4095 --board 4094 done": ":X1AFFEFFFN20A8;\n",
@@ -116,17 +113,6 @@ WRONG = {
     "lock 0501.01.01.18.AB": f"{ID} '0501.01.01.18.AB'",
     "lock 0x0501010118AB": f"{ID} '0x0501010118AB'",
     "lock " + 2050 * "0": f"{ID} '" + 2050 * "0" + "'",
-    "events 0": "W1: 1 to 8 event IDs are asked for at once, not 0",
-    "events 9": "W1: 1 to 8 event IDs are asked for at once, not 9",
-    "events 256": "W1: 1 to 8 event IDs are asked for at once, not 256",
-    "events 264": "W1: 1 to 8 event IDs are asked for at once, not 264",
-    "events 0x100000001": "W1: 1 to 8 event IDs are asked for at once, not 4294967297",
-    "events 18446744073709551615": "W1: 1 to 8 event IDs are asked for at once, not 18446744073709551615",
-    "events 18446744073709551617": "COUNT is 0 to 18446744073709551615, and not 18446744073709551617",
-    "events x": f"COUNT {NUMBER} 'x'",
-    "events -1": f"COUNT {NUMBER} '-1'",
-    "events": "behind 'events' stands: COUNT",
-    "events 1 1": "behind 'events' stands: COUNT",
     "lock": "behind 'lock' stands: ID",
     "release 1": "behind 'release' stands: no words",
     "options x": "behind 'options' stands: no words",
@@ -196,7 +182,7 @@ def test_wrong_lines():
 def test_help():
     status, out, error = run(["--help"])
     expect((status, error), (0, ""), "the status of --help")
-    names = "read write mask info options lock release events done explain --board --alias --connect --timeout"
+    names = "read write mask info options lock release done explain --board --alias --connect --timeout"
     for word in names.split():
         expect(word in out.split(), True, f"{word} in the help")
     for line in ("  0  ", "  1  ", "  2  ", "  3  ", "W1", "W3", "0x22B", "0x456"):
@@ -253,10 +239,6 @@ REPLIES = (
     ("20 10 00000001 00", "The write to address 0x00000001 of space 0x00 is done\n", 0),
     ("20 8A 000000000000", "Nobody holds the lock\n", 0),
     ("20 8A 0501010118AB", "The lock is held by 05.01.01.01.18.AB\n", 0),
-    ("20 8D 05010101022B0007", "1 event ID that nobody else gets:\n  05.01.01.01.02.2B.00.07\n", 0),
-    ("20 8D 05010101022BFFFE 05010101022BFFFF",
-     "2 event IDs that nobody else gets:\n  05.01.01.01.02.2B.FF.FE\n  05.01.01.01.02.2B.FF.FF\n", 0),
-    ("20 8D" + 8 * "0001020304FFABCD", "8 event IDs that nobody else gets:\n" + 8 * "  00.01.02.03.04.FF.AB.CD\n", 0),
 )
 
 
@@ -332,17 +314,12 @@ def test_received_ok():
     expect(explained([":X19A2822BN1456;", ":X19A2822BN345600;", ":X19A2822BN2456;"]), (0, DONE, ""), "Received OK in three frames")
 
 
-# What is said of 0x1000 in a Rejected, which has a meaning for one command. In a failure reply it has none.
-TOO_FEW = f"Rejected: {CODES['1000']}\n  where event IDs were asked for: fewer are left than that\n"
-
-
 def test_rejected():
     for code, words in CODES.items():
         for lines in (rejected(code), rejected(code, "C")):
-            expect(explained(lines), (1, TOO_FEW if code == "1000" else f"Rejected: {words}\n", ""), f"Rejected {code}")
+            expect(explained(lines), (1, f"Rejected: {words}\n", ""), f"Rejected {code}")
     expect(explained(rejected("")), (1, f"Rejected: {CODES['0000']}\n", ""), "Rejected without a code")
-    expect(explained(rejected("10")), (1, TOO_FEW, ""), "Rejected with half a code")
-    expect(explained(rejected("10000102")), (1, TOO_FEW + "  behind the code: 01 02\n", ""), "Rejected 0x1000 with bytes behind it")
+    expect(explained(rejected("10")), (1, f"Rejected: {CODES['1000']}\n", ""), "Rejected with half a code")
     for count in (1, 4, 5, 10, 11, 63, 64):
         further = "".join(f"{i:02X}" for i in range(count))
         words = f"Rejected: {CODES['1080']}\n  behind the code: {' '.join(f'{i:02X}' for i in range(count))}\n"
@@ -363,7 +340,7 @@ def test_w3():
     status, out, error = explained(rejected(long * 9))
     expect((status, out.startswith("W3: "), error), (1, True, ""), "Rejected of 603 bytes")
     for hexes in ("", "20", "20 8A 0501010118", "20 51 00000000", "20 82 E000 F2", "20 44", "21 80", "20 11 00000000 00", "20 82 E000F2FF10 4142",
-                  "20 51 00000000" + 66 * "AA", "20 8D", "20 8D 05010101022B00", "20 8D 05010101022B000000", "20 8D" + 65 * "00"):
+                  "20 51 00000000" + 66 * "AA"):
         said = "".join(f" {byte:02X}" for byte in bytes.fromhex(hexes))
         words = f"W3: a datagram of {len(said) // 3} bytes in no form of a reply:{said}\n"
         expect(explained(cut(hexes)), (1, words, ""), f"W3 {hexes}")
@@ -453,31 +430,8 @@ def host(text):
     return subprocess.run([HOST], input=text.encode(), stdout=subprocess.PIPE, timeout=PATIENCE, check=True).stdout
 
 
-def events(number, count):
-    """What is said of so many event IDs of the demonstration board, from a number on."""
-    ids = "".join(f"  05.01.01.01.02.2B.{n >> 8:02X}.{n & 0xFF:02X}\n" for n in range(number, number + count))
-    return f"{count} event ID{'s' if count > 1 else ''} that nobody else gets:\n{ids}"
-
-
-def test_all_events():
-    """All event IDs of the board and past the last: each comes once, and no request for more than are left gets any."""
-    counts = [7] * 9361 + [8, 2, 7, 6, 5, 3, 2, 1, 1]
-    wanted, number = [], 0
-    for count in counts:
-        left = 65536 - number
-        wanted.append(PENDING + events(number, count) if count <= left else TOO_FEW)
-        number += count if count <= left else 0
-    expect(number, 65536, "all numbers")
-    lines = run([], "".join(f"events {count}\n" for count in counts).encode())[1]
-    status, out, error = run(["explain"], host(lines))
-    expect((status, error), (1, ""), "the status of all event IDs")
-    expect(out == "".join(wanted), True, "all event IDs")
-    ids = [line for line in out.splitlines() if line.startswith("  05.")]
-    expect((len(ids), len(set(ids))), (65536, 65536), "how many event IDs came, and how many different ones")
-
-
 def test_pipes():
-    for line, words, status in (*ASKED, (LOCK, PENDING + "The lock is held by 05.01.01.01.18.AB\n", 0), ("events 3", PENDING + events(0, 3), 0)):
+    for line, words, status in (*ASKED, (LOCK, PENDING + "The lock is held by 05.01.01.01.18.AB\n", 0)):
         expect(run(["explain"], host(run_line(line)[1])), (status, words, ""), line)
     lines = [line for line, _, _ in ASKED]
     expect(run(["explain"], host(run([], "\n".join(lines).encode())[1])), (1, "".join(words for _, words, _ in ASKED), ""), "all of them")
@@ -540,21 +494,6 @@ def test_lock():
             ("lock 000000000000", (), "Nobody holds the lock", 0),
         ):
             expect(hub.ask(line, *options), (status, f"{PENDING}{words}\n", ""), f"{line} {options}")
-
-
-def test_events():
-    """Event IDs on the bus: two tools ask in turn, and no ID comes twice, also behind what the board rejects."""
-    other = ("--alias", "0x457")
-    with Hub() as hub:
-        number = 0
-        for count, options in ((1, ()), (8, other), (3, ()), (3, other), (7, ())):
-            expect(hub.ask(f"events {count}", *options), (0, PENDING + events(number, count), ""), f"{count} event IDs from {number} on")
-            number += count
-        expect(hub.ask("events 9"), (2, "", f"tool: {WRONG['events 9']}\n"), "nine event IDs")
-        text = f"events 2\n{LOCK}\nread 0xFF 0 64\nread 0xFD 0x20 1\ndone\nevents 1\n".encode()
-        status, out, error = run(["--connect", str(hub.port)], text)
-        expect((status, error), (1, ""), "event IDs among other commands")
-        expect(out.startswith(PENDING + events(number, 2)) and out.endswith(DONE + PENDING + events(number + 2, 1)), True, "their numbers")
 
 
 def test_two_tools():
@@ -744,26 +683,19 @@ def test_answers():
     answered([OK], "a write", (0, DONE, "", []), line)
     written = "The write to address 0x00000000 of space 0xFD is done\n"
     answered([OK_PENDING, single("20 11 00000000")], "a write with a reply", (0, PENDING + written, "", [TOOL_OK]), line)
-    # Event IDs: as many as were asked for or not, they are given; and none where too few are left.
-    for count in (1, 3, 8):
-        ids = cut("20 8D" + "".join(f"05010101022B{n:04X}" for n in range(250, 250 + count)))
-        answered([OK_PENDING, *ids], f"{count} event IDs", (0, PENDING + events(250, count), "", [TOOL_OK]), "events 3")
-    answered(rejected("1000"), "too few event IDs", (1, TOO_FEW, "", []), "events 3")
-    answered([OK], "no event IDs", (1, DONE, none, []), "events 3")
 
 
 def test_replies_to_others():
     """A reply to another command, as one that comes late, is not the answer."""
     passed = "tool: a reply to another command is passed over\n"
     others = ("20 53 00000001 41", "20 51 00000000 41", "20 5B 00000001 1082", "20 13 00000000", "20 1B 00000000 1083", "20 82 E000F2FF10",
-              "20 87 FF 0000000F 01", "20 8A 000000000000", "20 8D 05010101022B0007")
+              "20 87 FF 0000000F 01", "20 8A 000000000000")
     for other in others:
-        answered([OK_PENDING, *cut(other), REPLY], f"a reply {other} first", (0, PENDING + REPLY_WORDS, passed, [TOOL_OK, TOOL_OK]))
+        answered([OK_PENDING, single(other), REPLY], f"a reply {other} first", (0, PENDING + REPLY_WORDS, passed, [TOOL_OK, TOOL_OK]))
     for line, reply in (("write 0xFD 0 1", "20 51 00000000 01"), ("info 1", "20 87 02 00000000 00"), ("options", "20 8A 000000000000"),
-                        (LOCK, "20 82 E000F2FF10"), ("done", "20 11 00000000"), (LOCK, "20 8D 05010101022B0007"),
-                        ("events 1", "20 8A 000000000000")):
+                        (LOCK, "20 82 E000F2FF10"), ("done", "20 11 00000000")):
         ended = "tool: no answer from board 0x22B: the connection has ended\n"
-        answered([OK_PENDING, *cut(reply)], f"a reply {reply} to {line}", (3, PENDING, passed + ended, [TOOL_OK]), line)
+        answered([OK_PENDING, single(reply)], f"a reply {reply} to {line}", (3, PENDING, passed + ended, [TOOL_OK]), line)
 
 
 def test_early_answers():
@@ -888,10 +820,8 @@ TESTS = (
     test_others,
     test_odd_lines,
     test_pipes,
-    test_all_events,
     test_host,
     test_lock,
-    test_events,
     test_two_tools,
     test_lost_last,
     test_view_of_the_bus,

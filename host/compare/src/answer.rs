@@ -50,10 +50,16 @@ impl Answer {
         }
     }
 
-    /// Whether it is a refusal with an error of the caller.
+    /// Whether it is a refusal because of the board description: by a limit or by a space.
     #[must_use]
-    pub const fn is_call_error(self) -> bool {
-        matches!(self, Self::CallError { .. })
+    pub const fn is_of_description(self) -> bool {
+        matches!(
+            self,
+            Self::CallError {
+                number: 2..=5 | 11..=14,
+                ..
+            }
+        )
     }
 
     /// Whether it is the answer to a finished datagram.
@@ -85,7 +91,7 @@ impl From<Numbers> for Answer {
         let (number, position) = match (kind, error, position) {
             _ if unused != 0 => return Self::Malformed(numbers),
             (0, 2..=5, 0..=15) => (error, Some(usize::from(position))),
-            (0, 6 | 7 | 10..=14, NO_POSITION) | (1.., 0, NO_POSITION) => (error, None),
+            (0, 6 | 7 | 11..=14, NO_POSITION) | (1.., 0, NO_POSITION) => (error, None),
             _ => return Self::Malformed(numbers),
         };
         match (kind, flags, code, changed_at, changed_len, reply_len) {
@@ -241,7 +247,7 @@ mod tests {
                 assert_eq!(Answer::from(refused(number, position)), expected);
             }
         }
-        for number in [6, 7, 10, 11, 12, 13, 14] {
+        for number in [6, 7, 11, 12, 13, 14] {
             let numbers = refused(number, NO_POSITION);
             assert_eq!(Answer::from(numbers), call_error(number, None));
         }
@@ -264,12 +270,12 @@ mod tests {
                 let numbers = refused(number, position);
                 match number {
                     2..=5 if position <= 15 => good += 1,
-                    6 | 7 | 10..=14 if position == NO_POSITION => good += 1,
+                    6 | 7 | 11..=14 if position == NO_POSITION => good += 1,
                     _ => assert_eq!(Answer::from(numbers), Answer::Malformed(numbers)),
                 }
             }
         }
-        assert_eq!(good, 4 * 16 + 7);
+        assert_eq!(good, 4 * 16 + 6);
     }
 
     #[test]
@@ -300,9 +306,13 @@ mod tests {
     }
 
     #[test]
-    fn the_errors_of_the_caller_are_told_apart() {
-        for (numbers, answer, _) in good() {
-            assert_eq!(answer.is_call_error(), numbers.kind == 0);
+    fn the_refusals_because_of_the_description() {
+        for number in [2, 3, 4, 5, 11, 12, 13, 14] {
+            assert!(call_error(number, None).is_of_description());
         }
+        for number in [6, 7, 9] {
+            assert!(!call_error(number, None).is_of_description());
+        }
+        assert!(!Answer::Ignored.is_of_description());
     }
 }

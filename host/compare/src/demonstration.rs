@@ -1,5 +1,4 @@
-//! Holds the demonstration board of document 01, with the node ID that change request C-17 gives it,
-//! as a caller of the library has it.
+//! Holds the demonstration board of document 01 as a caller of the library has it.
 
 use crate::ffi::{self, Frame, Numbers, Parsed, Places, Pool, Registers, ResultBytes};
 use crate::layout::{frame_in, numbers_in};
@@ -21,11 +20,6 @@ pub const TABLE: [u8; 64] = [
 pub const FLASH: [u8; 16] = *b"<cdi/>\0\0\0\0\0\0\0\0\0\0";
 /// How many bytes memory has.
 pub const MEMORY_LEN: usize = 48;
-
-/// The registers at the start, byte by byte: the lock memory, the node ID, and next number 0.
-pub const REGISTERS: Registers = [
-    0, 0, 0, 0, 0, 0, 0x05, 0x01, 0x01, 0x01, 0x02, 0x2B, 0, 0, 0, 0,
-];
 
 /// The board with all that it is lent.
 #[derive(Clone, Debug)]
@@ -52,7 +46,7 @@ impl Demonstration {
     pub const fn new() -> Self {
         Self {
             memory: [0; MEMORY_LEN],
-            registers: REGISTERS,
+            registers: [0; ffi::REGISTERS_SIZE],
             pool: [0; ffi::POOL_BYTES],
             places: [0; ffi::PLACES_SIZE],
             reply: [0xEE; 72],
@@ -99,11 +93,6 @@ impl Demonstration {
         let numbers = numbers_in(&self.result);
         self.result.fill(0xEE);
         numbers
-    }
-
-    /// The registers.
-    pub const fn registers(&mut self) -> &mut Registers {
-        &mut self.registers
     }
 
     /// The places.

@@ -116,22 +116,6 @@ pub struct Wrong {
     pub short: bool,
     /// A reception state is handed in, and it is damaged.
     pub damaged: bool,
-    /// The next number is over 65,536.
-    pub too_high: bool,
-}
-
-impl Wrong {
-    /// The refusal that the call gets: that of the board, or else B6, B7 or B10, whichever is first;
-    /// `None` where nothing is wrong.
-    #[must_use]
-    pub fn refusal(&self) -> Option<Answer> {
-        let others = [(self.short, 6), (self.damaged, 7), (self.too_high, 10)];
-        let first = others.into_iter().find(|(is, _)| *is);
-        self.faults.refusal().or(first.map(|(_, number)| Answer::CallError {
-            number,
-            position: None,
-        }))
-    }
 }
 
 /// What is wrong with places. A place whose source is being swallowed has a source like any other,
@@ -293,27 +277,6 @@ mod tests {
         }
         good.alias = 4_096;
         assert_eq!(Faults::of(&good).refusal(), call_error(14, None));
-    }
-
-    #[test]
-    fn the_board_the_buffer_the_state_and_the_number_in_this_order() {
-        let mut table = TABLE;
-        table[4] = 0x20;
-        let mut wrong = Wrong {
-            faults: Faults::of(&board(&table)),
-            short: true,
-            damaged: true,
-            too_high: true,
-        };
-        assert_eq!(wrong.refusal(), call_error(2, Some(0)));
-        wrong.faults = Faults::of(&board(&TABLE));
-        assert_eq!(wrong.refusal(), call_error(6, None));
-        wrong.short = false;
-        assert_eq!(wrong.refusal(), call_error(7, None));
-        wrong.damaged = false;
-        assert_eq!(wrong.refusal(), call_error(10, None));
-        wrong.too_high = false;
-        assert_eq!(wrong.refusal(), None);
     }
 
     /// What a place is held for: length, source, being swallowed.

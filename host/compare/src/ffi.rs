@@ -34,7 +34,7 @@ pub const SENT_SIZE: usize = MOST_SENT * FRAME_SIZE;
 /// line has, so that a line that is too long is seen to be so.
 pub const CARRY_SIZE: usize = 29;
 /// The bytes of the registers.
-pub const REGISTERS_SIZE: usize = 16;
+pub const REGISTERS_SIZE: usize = 6;
 /// The bytes of what comes of a call.
 pub const RESULT_SIZE: usize = 20;
 /// The bytes of a line that was read.
@@ -43,11 +43,11 @@ pub const PARSED_SIZE: usize = 20;
 pub const LINE_SIZE: usize = 24;
 /// The version of the edge that this module is written for: major in the upper 16 bits, minor in
 /// the lower 16.
-pub const VERSION: u32 = 0x0007_0000;
+pub const VERSION: u32 = 0x0006_0000;
 /// In the place of a position where there is none. It is not 0, which is the first space's.
 pub const NO_POSITION: u8 = 255;
 
-/// The registers: the lock memory, the node ID and the next number.
+/// The registers, which are the lock memory alone today.
 pub type Registers = [u8; REGISTERS_SIZE];
 /// The reception state, but for the bytes in the pool. It is all zero at the start.
 pub type Places = [u8; PLACES_SIZE];

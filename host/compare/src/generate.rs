@@ -1,12 +1,12 @@
-//! Holds the random input: boards good and bad, event numbers, datagrams, the frames of tools,
-//! reception states and lines. It leans to the edges, where two readings of document 01 would part.
+//! Holds the random input: boards good and bad, datagrams, the frames of tools, reception states
+//! and lines. It leans to the edges, where two readings of document 01 would part.
 
 use crate::ffi::{Places, MOST_SPACES, PLACES, PLACES_SIZE, PLACE_BYTES, SPACE_SIZE};
 use crate::joining::{FIRST, LAST, MIDDLE, SINGLE};
 use crate::layout::{any_place, held, place, set_place, spaces_in, table_of, Held};
 use crate::random::Random;
 use crate::times::{any_age, GREATEST_AGE};
-use model::{EventNumbers, Space};
+use model::Space;
 
 // The limits of document 01. They are not taken from the model: one that had them wrong would get
 // input that hides it.
@@ -15,8 +15,6 @@ use model::{EventNumbers, Space};
 pub const LARGEST_STORE: usize = 65_536;
 /// The last alias.
 pub const LAST_ALIAS: u16 = 4_095;
-/// How many event numbers there are (C-17), and the greatest next number.
-pub const EVENT_NUMBERS: u32 = 65_536;
 
 /// A board description that neither side has seen yet.
 #[derive(Clone, Debug)]
@@ -410,48 +408,9 @@ fn spoil_space(random: &mut Random, board: &Board, spaces: &mut Vec<Space>) {
     }
 }
 
-/// A node ID, and a next number that no call refuses: small, near the last, or any.
-pub fn good_event_numbers(random: &mut Random) -> EventNumbers {
-    let mut node_id = [0; 6];
-    match random.below(8) {
-        0 => {}
-        1 => node_id = [0xFF; 6],
-        2 => node_id = [0x05, 0x01, 0x01, 0x01, 0x02, 0x2B],
-        _ => random.fill(&mut node_id),
-    }
-    let last = EVENT_NUMBERS as usize;
-    let next_number = match random.below(8) {
-        0 | 1 => random.below(16),
-        2..=4 => random.between(last - 16, last),
-        5 => random.pick(&[0xF8, 0xFF, 0x100, 0x1FF, 0x7FFF, 0x8000, 0xFEFF]),
-        _ => random.between(0, last),
-    };
-    EventNumbers {
-        node_id,
-        next_number: next_number as u32,
-    }
-}
-
-/// A next number over 65,536, mostly the first; some of them with low bits that alone would do.
-pub fn excess_number(random: &mut Random) -> u32 {
-    match random.below(4) {
-        0 | 1 => EVENT_NUMBERS + 1,
-        2 => random.pick(&[
-            EVENT_NUMBERS + 2,
-            0x0001_FFFF,
-            0x0002_0000,
-            0x0100_0001,
-            0x7FFF_FFFF,
-            0x8000_0000,
-            u32::MAX,
-        ]),
-        _ => random.word().max(EVENT_NUMBERS + 1),
-    }
-}
-
 /// A datagram for this board, mostly a good command.
 pub fn datagram(random: &mut Random, board: &Board) -> Vec<u8> {
-    let mut datagram = match random.below(44) {
+    let mut datagram = match random.below(40) {
         0..=11 => read(random, board),
         12..=19 => write(random, board),
         20..=27 => masked_write(random, board),
@@ -469,7 +428,6 @@ pub fn datagram(random: &mut Random, board: &Board) -> Vec<u8> {
             let length = random.between(0, 80);
             random.bytes(length)
         }
-        39..=42 => unique_ids(random),
         _ => {
             let length = random.between(0, 80);
             let mut bytes = random.bytes(length);
@@ -489,9 +447,8 @@ pub fn datagram(random: &mut Random, board: &Board) -> Vec<u8> {
 }
 
 /// The commands that are not unknown.
-pub const COMMANDS: [u8; 17] = [
-    0x00, 0x01, 0x02, 0x03, 0x08, 0x09, 0x0A, 0x0B, 0x40, 0x41, 0x42, 0x43, 0x80, 0x84, 0x88, 0x8C,
-    0xA8,
+pub const COMMANDS: [u8; 16] = [
+    0x00, 0x01, 0x02, 0x03, 0x08, 0x09, 0x0A, 0x0B, 0x40, 0x41, 0x42, 0x43, 0x80, 0x84, 0x88, 0xA8,
 ];
 
 fn spoil_datagram(random: &mut Random, datagram: &mut Vec<u8>) {
@@ -667,23 +624,6 @@ fn lock(random: &mut Random) -> Vec<u8> {
         }
     };
     datagram.extend(id);
-    datagram
-}
-
-/// A request for unique IDs, often with reserved bits that are not zero, and at times one byte
-/// shorter or longer than it must be.
-pub fn unique_ids(random: &mut Random) -> Vec<u8> {
-    let asked = match random.below(3) {
-        0 => random.below(8) as u8,
-        1 => random.pick(&[0x00, 0x07, 0x08, 0x09, 0x10, 0x80, 0xF8, 0xFF]),
-        _ => random.byte(),
-    };
-    let mut datagram = vec![0x20, 0x8C, asked];
-    match random.below(12) {
-        0 => drop(datagram.pop()),
-        1 => datagram.push(random.byte()),
-        _ => {}
-    }
     datagram
 }
 
@@ -1060,22 +1000,6 @@ mod tests {
             spoil_board(&mut random, &mut board);
             assert_eq!(board.spaces, spaces_in(&board.table));
         }
-    }
-
-    #[test]
-    fn next_numbers_are_good_and_too_high() {
-        let mut random = Random::new(17);
-        let (mut last, mut near, mut first) = (0, 0, 0);
-        for _ in 0..2_000 {
-            let event_numbers = good_event_numbers(&mut random);
-            assert_eq!(event_numbers.check(), Ok(()));
-            last += usize::from(event_numbers.next_number == 65_536);
-            near += usize::from(event_numbers.next_number >= 65_520);
-            let too_high = excess_number(&mut random);
-            assert!(too_high > 65_536);
-            first += usize::from(too_high == 65_537);
-        }
-        assert!(last > 20 && near > 500 && first > 500);
     }
 
     #[test]

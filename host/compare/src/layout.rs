@@ -1,14 +1,14 @@
-//! Holds what the bytes at the library's edge stand for: the spaces of a table, the registers, the
-//! places of a reception state, a frame, a line, what comes of a call. It is written from the description of
+//! Holds what the bytes at the library's edge stand for: the spaces of a table, the places of a
+//! reception state, a frame, a line, what comes of a call. It is written from the description of
 //! the edge and shares nothing with the library; the model knows no bytes of this kind.
 
 use crate::ffi::room::blank;
 use crate::ffi::{
-    Flag, Frame, Line, LineBytes, Numbers, Parsed, ParsedBytes, Places, Registers, ResultBytes,
-    FRAME_SIZE, MOST_SPACES, PLACES, PLACE_BYTES, PLACE_SIZE, REGISTERS_SIZE, SPACE_SIZE,
+    Flag, Frame, Line, LineBytes, Numbers, Parsed, ParsedBytes, Places, ResultBytes, FRAME_SIZE,
+    MOST_SPACES, PLACES, PLACE_BYTES, PLACE_SIZE, SPACE_SIZE,
 };
 use crate::random::Random;
-use model::{EventNumbers, Lock, NodeId, Space, Unfinished};
+use model::{Space, Unfinished};
 
 /// The spaces of a table: sixteen bytes each, and what is behind the last whole one is none.
 /// Number, read-only, in flash, a byte that means nothing; lowest, highest and offset, the least
@@ -87,35 +87,6 @@ impl TableKind {
             full: table.len() / SPACE_SIZE == MOST_SPACES,
         }
     }
-}
-
-/// The bytes of the registers: the lock memory, the node ID, and the next number in four bytes with
-/// the least significant first.
-#[must_use]
-pub fn registers_of(lock: Lock, event_numbers: EventNumbers) -> Registers {
-    let mut registers = [0; REGISTERS_SIZE];
-    registers[..6].copy_from_slice(&lock);
-    registers[6..12].copy_from_slice(&event_numbers.node_id);
-    registers[12..].copy_from_slice(&event_numbers.next_number.to_le_bytes());
-    registers
-}
-
-/// The lock memory in the registers.
-#[must_use]
-pub fn lock_in(registers: &Registers) -> Lock {
-    std::array::from_fn(|index| registers[index])
-}
-
-/// The node ID in the registers.
-#[must_use]
-pub fn node_id_in(registers: &Registers) -> NodeId {
-    std::array::from_fn(|index| registers[6 + index])
-}
-
-/// The next number in the registers.
-#[must_use]
-pub fn next_number_in(registers: &Registers) -> u32 {
-    word(&registers[12..])
 }
 
 /// What a place is held for: a datagram of that source, of which so many bytes have come, or that
@@ -362,19 +333,6 @@ mod tests {
         assert_eq!(spaces_in(&table), [space]);
         table.push(1);
         assert_eq!(spaces_in(&table).len(), 2);
-    }
-
-    #[test]
-    fn the_bytes_of_the_registers_are_these() {
-        let registers: Registers = std::array::from_fn(|index| index as u8 + 1);
-        assert_eq!(lock_in(&registers), [1, 2, 3, 4, 5, 6]);
-        assert_eq!(node_id_in(&registers), [7, 8, 9, 10, 11, 12]);
-        assert_eq!(next_number_in(&registers), 0x100F_0E0D);
-        let event_numbers = EventNumbers {
-            node_id: node_id_in(&registers),
-            next_number: next_number_in(&registers),
-        };
-        assert_eq!(registers_of(lock_in(&registers), event_numbers), registers);
     }
 
     #[test]

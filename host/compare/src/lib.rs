@@ -4,12 +4,10 @@
 pub mod ages;
 pub mod answer;
 pub mod demonstration;
-pub mod event_numbers;
 pub mod faults;
 pub mod ffi;
 pub mod generate;
 pub mod guarded;
-pub mod histories;
 pub mod joining;
 pub mod layout;
 pub mod lines;

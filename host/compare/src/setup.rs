@@ -4,24 +4,19 @@
 use std::fmt::Write;
 
 use crate::answer::Answer;
-use crate::event_numbers::Called;
 use crate::faults::{has_long_swallowed, is_damaged, Damage, Faults, Wrong};
 use crate::ffi::{
     self, Carry, Frame, LineBytes, Numbers, Places, Pool, Registers, ResultBytes, FRAME_SIZE,
     PLACES, PLACE_BYTES, PLACE_SIZE, SENT_SIZE,
 };
-use crate::generate::{
-    damage_places, good_event_numbers, rewrite_places, spoil_board, Board, Incoming, EVENT_NUMBERS,
-};
+use crate::generate::{damage_places, rewrite_places, spoil_board, Board, Incoming};
 use crate::guarded::Guarded;
 use crate::joining;
-use crate::layout::{
-    self, lock_in, next_number_in, node_id_in, numbers_in, registers_of, Entry, Held, TableKind,
-};
+use crate::layout::{self, numbers_in, Entry, Held, TableKind};
 use crate::random::Random;
 use crate::tally::{By, Case, Tally};
 use crate::times::{any_due, count_old, count_start, is_due, Call, Clock, Pasts};
-use model::{EventNumbers, Lock, Reception, Unfinished, MOST_SENT};
+use model::{Reception, Unfinished, MOST_SENT};
 
 /// The functions of the board's half that handle something, and the line splitter's; the library's,
 /// where nothing else is said. The comparison is made with any that are handed in, so that it can be
@@ -71,7 +66,7 @@ pub struct Lent {
     pub(crate) places: Guarded,
     pub(crate) pool: Guarded,
     pub(crate) reply: Guarded,
-    pub(crate) frames: Guarded,
+    frames: Guarded,
     pub(crate) result: Guarded,
 }
 
@@ -80,8 +75,7 @@ pub struct Lent {
 struct Model {
     flash: Vec<u8>,
     memory: Vec<u8>,
-    lock: Lock,
-    event_numbers: EventNumbers,
+    lock: model::Lock,
     reception: Reception,
     reply: Vec<u8>,
     frames: [model::Frame; MOST_SENT],
@@ -185,7 +179,6 @@ impl Model {
             &self.flash,
             &mut self.memory,
             &mut self.lock,
-            &mut self.event_numbers,
             &mut self.reception,
             time,
             frame.header,
@@ -209,7 +202,6 @@ impl Model {
             &self.flash,
             &mut self.memory,
             &mut self.lock,
-            &mut self.event_numbers,
             datagram,
             &mut self.reply,
         ))
@@ -258,11 +250,6 @@ pub fn for_model(places: &Places, pool: &Pool, time: u64) -> Reception {
     Reception::from_unfinished(&entries).expect("eight places")
 }
 
-/// Whether the next number in these registers is over 65,536.
-fn is_too_high(registers: &Registers) -> bool {
-    next_number_in(registers) > EVENT_NUMBERS
-}
-
 /// What is unfinished in an order that does not depend on places.
 pub(crate) fn in_order<'p>(entries: impl Iterator<Item = Entry<'p>>) -> Vec<Entry<'p>> {
     let mut entries: Vec<_> = entries.collect();
@@ -281,12 +268,9 @@ impl Setup {
         if random.once_in(4) {
             random.fill(&mut lock);
         }
-        let event_numbers = good_event_numbers(random);
-        let registers = registers_of(lock, event_numbers);
         let model = Model {
             reception: for_model(&places, &pool, clock.time()),
             lock,
-            event_numbers,
             reply: Vec::new(),
             frames: [model::Frame::EMPTY; MOST_SENT],
             flash,
@@ -297,7 +281,7 @@ impl Setup {
                 table: Guarded::new(board.table()),
                 flash: Guarded::new(&model.flash),
                 memory: Guarded::new(&model.memory),
-                registers: Guarded::new(&registers),
+                registers: Guarded::new(&lock),
                 places: Guarded::new(&places),
                 pool: Guarded::new(&pool),
                 reply: Guarded::new(&[]),
@@ -306,7 +290,7 @@ impl Setup {
             },
             before: Before {
                 memory: model.memory.clone(),
-                registers,
+                registers: lock,
                 places,
                 pool,
             },
@@ -343,22 +327,6 @@ impl Setup {
         (self.pasts, self.starting) = (None, false);
     }
 
-    /// Has a place hold these bytes of a datagram of this source, whose last accepted frame came at
-    /// this very time; no other place is that source's.
-    pub fn put_begun(&mut self, random: &mut Random, index: usize, source: u16, bytes: &[u8]) {
-        let held = Held {
-            len: bytes.len() as u8,
-            source,
-            tick: self.clock.tick(),
-            swallowing: false,
-        };
-        let Lent { places, pool, .. } = &mut self.library;
-        let (places, pool): (&mut Places, &mut Pool) = (places.array_mut(), pool.array_mut());
-        layout::set_place(places, index, layout::any_place(random, Some(held)));
-        pool[PLACE_BYTES * index..][..bytes.len()].copy_from_slice(bytes);
-        self.model.reception = for_model(places, pool, self.clock.time());
-    }
-
     /// Puts other places and another time, at which what these places are held for is as a call
     /// leaves it.
     pub fn begin_anew(&mut self, places: &Places, clock: Clock) {
@@ -384,35 +352,10 @@ impl Setup {
         self.library.memory.bytes()
     }
 
-    /// The library's lock memory.
+    /// The library's registers, which are the lock memory.
     #[must_use]
-    pub fn lock(&self) -> Lock {
-        lock_in(self.library.registers.array())
-    }
-
-    /// The library's node ID and next number.
-    #[must_use]
-    pub fn event_numbers(&self) -> EventNumbers {
-        let registers = self.library.registers.array();
-        EventNumbers {
-            node_id: node_id_in(registers),
-            next_number: next_number_in(registers),
-        }
-    }
-
-    /// Puts another node ID and next number, as a caller may before any call.
-    pub fn set_event_numbers(&mut self, event_numbers: EventNumbers) {
-        self.model.event_numbers = event_numbers;
-        let registers = registers_of(self.lock(), event_numbers);
-        self.library.registers.set(&registers);
-    }
-
-    /// Puts another next number.
-    pub fn set_next_number(&mut self, next_number: u32) {
-        self.set_event_numbers(EventNumbers {
-            next_number,
-            ..self.event_numbers()
-        });
+    pub fn lock(&self) -> &Registers {
+        self.library.registers.array()
     }
 
     /// The library's reply buffer.
@@ -525,7 +468,8 @@ impl Setup {
             self.describe(&mut report, &done);
             report
         });
-        self.clock.brought(answer.is_call_error());
+        self.clock
+            .brought(matches!(answer, Answer::CallError { .. }));
         compared
     }
 
@@ -549,7 +493,8 @@ impl Setup {
             self.describe_unfinished(&mut report);
             report
         });
-        self.clock.brought(answer.is_call_error());
+        self.clock
+            .brought(matches!(answer, Answer::CallError { .. }));
         compared
     }
 
@@ -600,12 +545,9 @@ impl Setup {
                 )?;
                 tally.count(Case::Tick);
                 let short = (1..72).contains(&library.reply.bytes().len());
-                let too_high = is_too_high(library.registers.array());
                 for (is, case) in [
                     (self.faults.refusal().is_some(), Case::TickBadBoard),
                     (short, Case::TickShort),
-                    (too_high, Case::TickNumber),
-                    (too_high && due, Case::TickNumberDue),
                     (has_long_swallowed(&before.places), Case::TickLongSwallowed),
                 ] {
                     tally.count_if(is, case);
@@ -656,7 +598,7 @@ impl Setup {
         let Self {
             library, before, ..
         } = self;
-        if done.answer.is_call_error() || done.by == By::Whole {
+        if matches!(done.answer, Answer::CallError { .. }) || done.by == By::Whole {
             same(
                 library.places.bytes() == before.places && library.pool.bytes() == before.pool,
                 "a refused call changed the reception state",
@@ -688,16 +630,7 @@ impl Setup {
             library.memory.bytes() == model.memory,
             "the memories differ",
         )?;
-        let (registers, event_numbers) = (library.registers.array(), model.event_numbers);
-        same(lock_in(registers) == model.lock, "the locks differ")?;
-        same(
-            next_number_in(registers) == event_numbers.next_number,
-            "the next numbers differ",
-        )?;
-        same(
-            node_id_in(registers) == event_numbers.node_id,
-            "the node IDs differ",
-        )?;
+        same(library.registers.bytes() == model.lock, "the locks differ")?;
         same(
             done.count == done.model_count,
             "the numbers of frames differ",
@@ -749,13 +682,12 @@ impl Setup {
             library.reply.bytes()[written..] == done.reply[written..],
             "the reply buffer is changed past the reply",
         )?;
-        let replied = matches!(done.answer, Answer::Replied(8));
-        same(
-            lock_in(library.registers.array()) == lock_in(&before.registers)
-                || replied && library.reply.bytes()[1] == 0x8A,
-            "the lock is changed without 0x88",
-        )?;
-        self.called(done).check()?;
+        if !matches!(done.answer, Answer::Replied(8)) {
+            same(
+                library.registers.bytes() == before.registers,
+                "the lock is changed without 0x88",
+            )?;
+        }
         same(library.flash.bytes() == model.flash, "flash is changed")?;
         same(
             library.table.bytes() == board.table(),
@@ -767,14 +699,13 @@ impl Setup {
         )
     }
 
-    /// Tests of the library alone that a call is refused by the first thing that is wrong, with the
-    /// position of a space and of nothing else, and that one with nothing wrong is not, whatever the
-    /// model does.
+    /// Tests of the library alone that a board is refused by its first fault, with the position of
+    /// a space and of nothing else, and that one without a fault is not, whatever the model does.
     fn compare_refusal(&self, done: &Done) -> Result<(), &'static str> {
-        let answer = done.answer.is_call_error().then_some(done.answer);
+        let answer = done.answer.is_of_description().then_some(done.answer);
         same(
-            answer == self.wrong(done).refusal(),
-            "it is another thing that is wrong first",
+            answer == self.faults.refusal(),
+            "the board has another first fault than the answer",
         )
     }
 
@@ -784,18 +715,6 @@ impl Setup {
             faults: self.faults,
             short: done.reply.len() < 72,
             damaged: done.by == By::Frames && is_damaged(&self.before.places),
-            too_high: is_too_high(&self.before.registers),
-        }
-    }
-
-    /// What came of a call for the event numbers.
-    fn called<'c>(&'c self, done: &Done<'c>) -> Called<'c> {
-        Called {
-            before: &self.before.registers,
-            after: self.library.registers.array(),
-            finished: done.finished,
-            answer: done.answer,
-            reply: self.library.reply.bytes(),
         }
     }
 
@@ -833,9 +752,8 @@ impl Setup {
         if let Answer::CallError { number, position } = done.answer {
             tally.refused(done.by, number, position, &self.wrong(done));
             let due = done.by == By::Frames && any_due(&self.before.places, self.clock.tick());
-            tally.count_if(due && !matches!(number, 7 | 10), Case::RefusedDue);
+            tally.count_if(due && number != 7, Case::RefusedDue);
             tally.count_if(due && number == 7, Case::B7Due);
-            tally.count_if(due && number == 10, Case::B10Due);
             if number == 7 {
                 tally.damaged(&Damage::of(&self.before.places), true);
             }
@@ -853,13 +771,12 @@ impl Setup {
         if done.by == By::Frames {
             tally.sent(done.count);
         }
-        tally.event_numbers(done.by, &self.called(done));
         same(
             tally.answer(
                 done.by,
                 done.answer,
                 done.finished,
-                lock_in(&self.before.registers),
+                self.before.registers,
                 self.library.reply.bytes(),
             ),
             "document 01 has no such answer",
@@ -886,7 +803,7 @@ impl Setup {
         }
         line("flash", &hex(&model.flash));
         line("memory before", &hex(&before.memory));
-        line("registers before", &hex(&before.registers));
+        line("lock before", &hex(&before.registers));
         line("reply before", &hex(done.reply));
         for index in 0..PLACES {
             line(
@@ -912,9 +829,8 @@ impl Setup {
         line("model:   reply", &hex(&model.reply));
         line("library: memory", &hex(library.memory.bytes()));
         line("model:   memory", &hex(&model.memory));
-        line("library: register", &hex(library.registers.bytes()));
-        let registers = registers_of(model.lock, model.event_numbers);
-        line("model:   register", &hex(&registers));
+        line("library: lock", &hex(library.registers.bytes()));
+        line("model:   lock", &hex(&model.lock));
         self.describe_unfinished(report);
     }
 

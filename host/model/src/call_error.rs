@@ -26,8 +26,6 @@ pub enum CallError {
     B7BadReceptionState,
     /// In cutting: more than 72 bytes, or an alias over 4,095.
     B9CannotBeCut,
-    /// A next number over 65,536.
-    B10NextNumberTooHigh,
     /// Over 16 spaces.
     B11TooManySpaces,
     /// Memory over 65,536 bytes.
@@ -50,7 +48,6 @@ impl CallError {
             Self::B6ReplyBufferTooShort => 6,
             Self::B7BadReceptionState => 7,
             Self::B9CannotBeCut => 9,
-            Self::B10NextNumberTooHigh => 10,
             Self::B11TooManySpaces => 11,
             Self::B12MemoryTooLarge => 12,
             Self::B13FlashTooLarge => 13,
@@ -69,7 +66,6 @@ impl CallError {
             Self::B6ReplyBufferTooShort
             | Self::B7BadReceptionState
             | Self::B9CannotBeCut
-            | Self::B10NextNumberTooHigh
             | Self::B11TooManySpaces
             | Self::B12MemoryTooLarge
             | Self::B13FlashTooLarge

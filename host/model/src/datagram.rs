@@ -1,7 +1,6 @@
 //! Holds the handling of one whole datagram: the commands, their replies and their refusals.
 
 use crate::description::{check_description, Description, Space};
-use crate::event_numbers::{EventNumbers, UniqueId};
 use crate::CallError;
 
 /// The most bytes of a datagram, and so of a reply.
@@ -12,8 +11,6 @@ pub type Lock = [u8; 6];
 
 /// The error codes that the board sends.
 pub mod code {
-    /// Fewer event numbers are left than asked for.
-    pub const TOO_FEW_LEFT: u16 = 0x1000;
     /// Empty, too long, no command, wrong length, odd pairs or bad count.
     pub const INVALID_ARGUMENT: u16 = 0x1080;
     /// The command is unknown.
@@ -62,28 +59,18 @@ const MOST_DATA: usize = 64;
 
 /// Handles a datagram that is handed over whole.
 ///
-/// B11 to B14, then B2 to B6, then B10, come first and change nothing.
+/// B11 to B14, then B2 to B6, come first and change nothing.
 pub fn handle_datagram(
     description: &Description,
     flash: &[u8],
     memory: &mut [u8],
     lock: &mut Lock,
-    event_numbers: &mut EventNumbers,
     datagram: &[u8],
     reply: &mut [u8],
 ) -> Result<Answer, CallError> {
     check_description(description, flash.len(), memory.len())?;
     check_reply_buffer(reply)?;
-    event_numbers.check()?;
-    Ok(handle(
-        description,
-        flash,
-        memory,
-        lock,
-        event_numbers,
-        datagram,
-        reply,
-    ))
+    Ok(handle(description, flash, memory, lock, datagram, reply))
 }
 
 /// B6.
@@ -94,13 +81,12 @@ pub(crate) fn check_reply_buffer(reply: &[u8]) -> Result<(), CallError> {
     Ok(())
 }
 
-/// Handles a whole datagram after B11 to B14, B2 to B6 and B10 have been checked.
+/// Handles a whole datagram after B11 to B14 and B2 to B6 have been checked.
 pub(crate) fn handle(
     description: &Description,
     flash: &[u8],
     memory: &mut [u8],
     lock: &mut Lock,
-    event_numbers: &mut EventNumbers,
     datagram: &[u8],
     reply: &mut [u8],
 ) -> Answer {
@@ -111,7 +97,6 @@ pub(crate) fn handle(
         0x80 => options(description, datagram, reply),
         0x84 => space_information(description, datagram, reply),
         0x88 => lock_or_release(lock, datagram, reply),
-        0x8C => unique_ids(event_numbers, datagram, reply),
         0xA8 => update_complete(datagram),
         _ => Err(code::UNKNOWN_COMMAND),
     });
@@ -362,32 +347,6 @@ fn lock_or_release(lock: &mut Lock, datagram: &[u8], reply: &mut [u8]) -> Result
     reply[1] = 0x8A;
     reply[2..8].copy_from_slice(lock);
     Ok(Answer::Replied(8))
-}
-
-fn unique_ids(
-    event_numbers: &mut EventNumbers,
-    datagram: &[u8],
-    reply: &mut [u8],
-) -> Result<Answer, u16> {
-    let &[_, _, asked] = datagram else {
-        return Err(code::INVALID_ARGUMENT);
-    };
-    // Three bits have no eight: zero asks for that many, and not for none.
-    let count = match asked & 0x07 {
-        0 => 8,
-        fewer => fewer,
-    };
-    let ids = event_numbers
-        .give(u32::from(count))
-        .ok_or(code::TOO_FEW_LEFT)?;
-    reply[0] = CONTENT_ID;
-    reply[1] = 0x8D;
-    let mut length = 2;
-    for id in ids {
-        reply[length..length + size_of::<UniqueId>()].copy_from_slice(&id);
-        length += size_of::<UniqueId>();
-    }
-    Ok(Answer::Replied(length))
 }
 
 fn update_complete(datagram: &[u8]) -> Result<Answer, u16> {

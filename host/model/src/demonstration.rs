@@ -1,8 +1,7 @@
-//! Holds the demonstration board of document 01, with the node ID that C-17 gives it.
+//! Holds the demonstration board of document 01.
 
 use crate::datagram::{handle_datagram, Answer, Lock};
 use crate::description::{Description, Space};
-use crate::event_numbers::{EventNumbers, NodeId};
 use crate::joining::{handle_frame, handle_time, FrameAnswer};
 use crate::reception::Reception;
 use crate::CallError;
@@ -49,9 +48,6 @@ pub const DEMONSTRATION_DESCRIPTION: Description<'static> = Description {
     spaces: &SPACES,
 };
 
-/// The node ID of the demonstration board.
-const NODE_ID: NodeId = [0x05, 0x01, 0x01, 0x01, 0x02, 0x2B];
-
 /// The demonstration board with everything it owns.
 #[derive(Clone, Debug)]
 pub struct Board {
@@ -63,8 +59,6 @@ pub struct Board {
     pub memory: [u8; 48],
     /// The lock memory, zero at the start.
     pub lock: Lock,
-    /// Its node ID, and the next number, 0 at the start.
-    pub event_numbers: EventNumbers,
     /// What is kept for the tools that are unfinished; for none at the start.
     pub reception: Reception,
 }
@@ -77,7 +71,6 @@ pub fn demo_board() -> Board {
         flash: *b"<cdi/>\0\0\0\0\0\0\0\0\0\0",
         memory: [0; 48],
         lock: [0; 6],
-        event_numbers: EventNumbers::new(NODE_ID),
         reception: Reception::new(),
     }
 }
@@ -96,7 +89,6 @@ impl Board {
             &self.flash,
             &mut self.memory,
             &mut self.lock,
-            &mut self.event_numbers,
             &mut self.reception,
             time,
             header,
@@ -117,7 +109,6 @@ impl Board {
             &self.flash,
             &mut self.memory,
             &mut self.lock,
-            &mut self.event_numbers,
             datagram,
             reply,
         )

@@ -3,7 +3,6 @@
 
 use crate::datagram::{self, check_reply_buffer, code, Answer, Lock};
 use crate::description::{check_description, Description};
-use crate::event_numbers::EventNumbers;
 use crate::frame::FRAME_DATA;
 use crate::reception::Reception;
 use crate::CallError;
@@ -56,8 +55,8 @@ fn recognise(alias: u16, header: u32, data: &[u8]) -> Option<(Kind, u16)> {
 
 /// Handles one frame, which comes at this time.
 ///
-/// B11 to B14, then B2 to B7, then B10, come first, in this order and also for a frame that would be
-/// ignored; they change nothing and drop nothing.
+/// B11 to B14, then B2 to B7, come first, in this order and also for a frame that would be ignored;
+/// they change nothing and drop nothing.
 ///
 /// Then, before the frame is looked at, every place whose source's last accepted frame is more than
 /// 3,000 ticks back is dropped without an answer, whether it holds an unfinished datagram or its
@@ -79,7 +78,6 @@ pub fn handle_frame(
     flash: &[u8],
     memory: &mut [u8],
     lock: &mut Lock,
-    event_numbers: &mut EventNumbers,
     reception: &mut Reception,
     time: u64,
     header: u32,
@@ -88,9 +86,7 @@ pub fn handle_frame(
 ) -> Result<FrameAnswer, CallError> {
     check_description(description, flash.len(), memory.len())?;
     check_reply_buffer(reply)?;
-    reception.check()?;
-    event_numbers.check()?;
-    reception.drop_due(time);
+    handle_time(reception, time)?;
 
     let Some((kind, source)) = recognise(description.alias, header, data) else {
         return Ok(FrameAnswer::Ignored);
@@ -119,7 +115,6 @@ pub fn handle_frame(
             flash,
             memory,
             lock,
-            event_numbers,
             data,
             reply,
         )),
@@ -146,7 +141,6 @@ pub fn handle_frame(
                     flash,
                     memory,
                     lock,
-                    event_numbers,
                     whole,
                     reply,
                 ))
@@ -168,9 +162,9 @@ pub fn handle_frame(
 
 /// Handles a lone tick: a time that comes without a frame.
 ///
-/// Only B7 is tested, and it changes nothing and drops nothing; event numbers are not asked for.
-/// Then every place whose source's last accepted frame is more than 3,000 ticks back is dropped
-/// without an answer, whether it holds an unfinished datagram or its source is being swallowed.
+/// Only B7 is tested, and it changes nothing and drops nothing. Then every place whose source's
+/// last accepted frame is more than 3,000 ticks back is dropped without an answer, whether it holds
+/// an unfinished datagram or its source is being swallowed.
 pub fn handle_time(reception: &mut Reception, time: u64) -> Result<(), CallError> {
     reception.check()?;
     reception.drop_due(time);

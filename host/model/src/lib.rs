@@ -1,11 +1,11 @@
 //! Holds the parts of the library: the board's side of the OpenLCB memory configuration protocol
 //! as document 01 fixes it, and the tool's half, the writer of commands and the readers of what
 //! comes back; what writes do to memory, and the changes from one image of memory to another; with
-//! change requests C-11, C-12 and C-14 to C-17 of document 02.
+//! change requests C-11, C-12, C-14, C-15 and C-16 of document 02.
 //!
 //! Document 01 decides; source documents 000 (Memory Configuration), 002 (Message Network) and
 //! 004 (Datagram Transport) stand behind it. Nothing here allocates while a frame is handled:
-//! flash, memory, lock, event numbers, reception state and reply buffer are all lent by the caller.
+//! flash, memory, lock, reception state and reply buffer are all lent by the caller.
 
 #![forbid(unsafe_code)]
 #![warn(missing_docs)]
@@ -18,7 +18,6 @@ mod datagram;
 mod demonstration;
 mod description;
 mod effect;
-mod event_numbers;
 mod frame;
 mod gridconnect;
 mod joining;
@@ -38,7 +37,6 @@ pub use description::{
     check_description, Description, Space, LARGEST_STORE, LAST_ALIAS, MOST_SPACES,
 };
 pub use effect::{is_accepted_write, Effect};
-pub use event_numbers::{EventNumbers, NodeId, UniqueId, EVENT_NUMBERS};
 pub use frame::{received_ok_frame, rejected_frame, transport_reply, Frame, FRAME_DATA};
 pub use gridconnect::{parse_line, print_line, LONGEST_LINE};
 pub use joining::{handle_frame, handle_time, source_of, FrameAnswer};

@@ -11,8 +11,6 @@ pub use writer::{write_command, Request};
 const CONTENT_ID: u8 = 0x20;
 /// The most bytes that one command or reply carries: data, or masks and data in pairs.
 const MOST_DATA: usize = 64;
-/// The most unique IDs that one command asks for and one reply carries.
-const MOST_IDS: usize = 8;
 
 /// Why the writer or a reader gives no result.
 ///

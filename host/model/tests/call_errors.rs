@@ -1,5 +1,5 @@
-//! Holds the tests of the errors of the caller, which go back to the caller: B11 to B14, B2 to B7
-//! and B10, their order, the positions that B2 to B5 bring, and that nothing changes.
+//! Holds the tests of the errors of the caller, which go back to the caller: B11 to B14 and B2 to
+//! B7, their order, the positions that B2 to B5 bring, and that nothing changes.
 
 mod common;
 
@@ -9,8 +9,8 @@ use model::{
     Unfinished,
 };
 use CallError::{
-    B10NextNumberTooHigh, B11TooManySpaces, B12MemoryTooLarge, B13FlashTooLarge,
-    B14AliasOutOfRange, B2LowestAboveHighest, B3WindowPastEnd, B4MustBeReadOnly, B5NumberUsedTwice,
+    B11TooManySpaces, B12MemoryTooLarge, B13FlashTooLarge, B14AliasOutOfRange,
+    B2LowestAboveHighest, B3WindowPastEnd, B4MustBeReadOnly, B5NumberUsedTwice,
     B6ReplyBufferTooShort, B7BadReceptionState, B9CannotBeCut,
 };
 
@@ -67,30 +67,19 @@ fn checked(bench: &Bench) -> Result<(), CallError> {
     check_description(&description, bench.flash.len(), bench.memory.len())
 }
 
-/// Puts a write, a lock, a request for unique IDs, a frame and an ignored frame to the board; all are
-/// refused alike and nothing changes. The whole-datagram calls know nothing of B7, and a lone tick of
-/// B7 alone.
+/// Puts a write, a lock, a frame and an ignored frame to the board; all are refused alike and
+/// nothing changes. The whole-datagram calls know nothing of B7, and a lone tick of B7 alone.
 fn assert_refused(bench: &Bench, error: CallError) {
     let mut board = bench.clone();
     assert_eq!(board.lone_tick(), bench.reception.check());
     board.assert_as(bench);
-    // Of the errors B10 alone comes behind B7.
-    let whole = match error {
-        B7BadReceptionState => bench.event_numbers.check().err(),
-        _ => Some(error),
-    };
-    for datagram in [
-        "",
-        "20010000000011",
-        "2088010203040506",
-        "208C01",
-        "2080",
-        "21",
-    ] {
+    for datagram in ["", "20010000000011", "2088010203040506", "2080", "21"] {
         let mut board = bench.clone();
         let answer = board.datagram(&hex(datagram));
-        assert_eq!(answer.err(), whole);
-        if whole.is_some() {
+        if error == B7BadReceptionState {
+            assert!(answer.is_ok());
+        } else {
+            assert_eq!(answer, Err(error));
             board.assert_as(bench);
         }
         for header in [0x1A, 0x1B, 0x1C, 0x1D, 0x19, 0x3A].map(|top| top << 24 | 0x22_B123) {
@@ -474,101 +463,6 @@ fn b7_reception() {
     }
 }
 
-/// Next numbers that are refused, some of them with low bits that alone would do.
-const TOO_HIGH: [u32; 8] = [
-    65_537,
-    65_538,
-    0x0001_FFFF,
-    0x0002_0000,
-    0x0100_0000,
-    0x7FFF_FFFF,
-    0x8000_0000,
-    u32::MAX,
-];
-
-#[test]
-fn b10_next_number() {
-    for next_number in [0, 1, 65_528, 65_529, 65_535, 65_536] {
-        let mut bench = Bench::demo();
-        bench.event_numbers.next_number = next_number;
-        assert_eq!(bench.event_numbers.check(), Ok(()));
-        assert_eq!(bench.datagram(&hex("20A8")), Ok(Answer::UpdateComplete));
-        assert_eq!(
-            bench.frame(single(0x123), &hex("20A8")),
-            Ok(FrameAnswer::Handled(Answer::UpdateComplete))
-        );
-        assert_eq!(bench.frame(0, &[]), Ok(FrameAnswer::Ignored));
-    }
-    for next_number in TOO_HIGH {
-        let mut bench = Bench::demo();
-        bench.event_numbers.next_number = next_number;
-        assert_eq!(
-            bench.event_numbers.check(),
-            Err(B10NextNumberTooHigh),
-            "{next_number}"
-        );
-        assert_refused(&bench, B10NextNumberTooHigh);
-        // Any node ID will do, and none helps.
-        for node_id in [[0; 6], [255; 6]] {
-            bench.event_numbers.node_id = node_id;
-            assert_refused(&bench, B10NextNumberTooHigh);
-        }
-    }
-}
-
-#[test]
-fn b10_comes_last() {
-    let bytes = [7; 72];
-    for next_number in TOO_HIGH {
-        let mut bench = Bench::demo();
-        bench.event_numbers.next_number = next_number;
-        let mut damaged = bench.clone();
-        damaged.reception = Reception::from_unfinished(&[entry(1, 73, &bytes)]).unwrap();
-        assert_refused(&damaged, B7BadReceptionState);
-        damaged.reply.truncate(71);
-        assert_refused(&damaged, B6ReplyBufferTooShort);
-        bench.reply.truncate(71);
-        assert_refused(&bench, B6ReplyBufferTooShort);
-        bench.spaces[2].read_only = false;
-        assert_refused(&bench, B4MustBeReadOnly(2));
-        bench.alias = 0;
-        assert_refused(&bench, B14AliasOutOfRange);
-    }
-}
-
-#[test]
-fn b10_drops_nothing() {
-    let entries = [
-        entry(0x123, 2, &[0x20, 0x8C]),
-        swallowed(0x456),
-        entry(0x789, 0, &[]),
-    ];
-    let mut bench = Bench::demo();
-    bench.reception = Reception::from_unfinished(&entries).unwrap();
-    for (next_number, time) in TOO_HIGH
-        .iter()
-        .flat_map(|&next_number| [0, 3_000, 3_001, u64::MAX].map(|time| (next_number, time)))
-    {
-        let mut bench = bench.clone();
-        bench.event_numbers.next_number = next_number;
-        bench.time = time;
-        let before = bench.clone();
-        for (header, data) in [
-            (last(0x123), &[1][..]),
-            (last(0x456), &[]),
-            (single(0x001), &[0x20, 0xA8]),
-            (0, &[]),
-        ] {
-            assert_eq!(bench.frame(header, data), Err(B10NextNumberTooHigh));
-            bench.assert_as(&before);
-        }
-        // The lone tick is not asked for a number, and drops.
-        assert_eq!(bench.lone_tick(), Ok(()));
-        assert_eq!(bench.kept().len(), if time > 3_000 { 0 } else { 3 });
-        assert_eq!(bench.event_numbers, before.event_numbers);
-    }
-}
-
 #[test]
 fn b7_asks_nothing_of_times() {
     let times = [0, 1, 3_001, 65_536, 4_294_967_296, u64::MAX - 1, u64::MAX];
@@ -750,7 +644,6 @@ fn the_numbers_of_the_errors() {
         (B6ReplyBufferTooShort, 6, None, "B6"),
         (B7BadReceptionState, 7, None, "B7"),
         (B9CannotBeCut, 9, None, "B9"),
-        (B10NextNumberTooHigh, 10, None, "B10"),
         (B11TooManySpaces, 11, None, "B11"),
         (B12MemoryTooLarge, 12, None, "B12"),
         (B13FlashTooLarge, 13, None, "B13"),

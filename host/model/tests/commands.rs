@@ -1,9 +1,8 @@
-//! Holds the tests of whole datagrams: document 01's cases, its wrong readings, and boundaries; and
-//! C-17's event numbers.
+//! Holds the tests of whole datagrams: document 01's cases, its wrong readings, and boundaries.
 
 mod common;
 
-use common::{digits, hex, in_flash, read_only, space, Bench, FILL};
+use common::{hex, in_flash, read_only, space, Bench, FILL};
 use model::{Answer, Space};
 
 fn fresh(datagram: &str) -> String {
@@ -258,7 +257,7 @@ fn the_order_of_the_refusals_that_are_sent() {
 fn every_command_that_is_not_listed_is_unknown() {
     let known = [
         0x00u8, 0x01, 0x02, 0x03, 0x08, 0x09, 0x0A, 0x0B, 0x40, 0x41, 0x42, 0x43, 0x80, 0x84, 0x88,
-        0x8C, 0xA8,
+        0xA8,
     ];
     for command in 0..=255u8 {
         for tail in ["", "00", "000000000001", "00000000000000000001"] {
@@ -434,164 +433,6 @@ fn the_lock() {
         assert_eq!(board.say(wrong), "rejected 1080");
     }
     assert_eq!(board.lock, [0, 0, 0, 0, 0, 1]);
-}
-
-/// The demonstration board with this next number.
-fn with_next_number(next_number: u32) -> Bench {
-    let mut board = Bench::demo();
-    board.event_numbers.next_number = next_number;
-    board
-}
-
-/// The reply with so many IDs of this node from this number on, in hex.
-fn ids(node_id: &str, start: u32, count: u32) -> String {
-    let ids = (start..start + count).map(|number| format!("{node_id}{number:04X}"));
-    format!("208D{}", ids.collect::<String>())
-}
-
-const NODE_ID: &str = "05010101022B";
-
-#[test]
-fn unique_ids() {
-    assert_eq!(fresh("208C01"), "208D05010101022B0000");
-    assert_eq!(
-        fresh("208C03"),
-        "208D05010101022B000005010101022B000105010101022B0002"
-    );
-    assert_eq!(fresh("208C00"), ids(NODE_ID, 0, 8));
-    assert_eq!(fresh("208C00").len(), 2 * 66);
-    // One request after the other.
-    let mut board = Bench::demo();
-    assert_eq!(board.say("208C02"), ids(NODE_ID, 0, 2));
-    assert_eq!(board.say("208C00"), ids(NODE_ID, 2, 8));
-    assert_eq!(board.say("208C07"), ids(NODE_ID, 10, 7));
-    assert_eq!(board.event_numbers.next_number, 17);
-    // The lock plays no part.
-    assert_eq!(board.say("2088010203040506"), "208A010203040506");
-    assert_eq!(board.say("208C01"), ids(NODE_ID, 17, 1));
-}
-
-#[test]
-fn zero_asks_for_eight_unique_ids_and_the_upper_bits_are_ignored() {
-    for (asked, count) in [(0, 8), (1, 1), (7, 7), (8, 8), (9, 1), (0xF8, 8), (0xFF, 7)] {
-        assert_eq!(
-            fresh(&format!("208C{asked:02X}")),
-            ids(NODE_ID, 0, count),
-            "{asked:02X}"
-        );
-    }
-    for asked in 0..=255u8 {
-        let count = [8, 1, 2, 3, 4, 5, 6, 7][usize::from(asked % 8)];
-        assert_eq!(
-            with_next_number(500).say(&format!("208C{asked:02X}")),
-            ids(NODE_ID, 500, count),
-            "{asked:02X}"
-        );
-    }
-}
-
-#[test]
-fn lengths_of_requests_for_unique_ids() {
-    assert_eq!(fresh("208C"), "rejected 1080");
-    assert_eq!(fresh("208C01"), ids(NODE_ID, 0, 1));
-    assert_eq!(fresh("208C0101"), "rejected 1080");
-    for length in 4..=73 {
-        let datagram = format!("208C{}", "01".repeat(length - 2));
-        assert_eq!(fresh(&datagram), "rejected 1080", "{length}");
-    }
-    // The length comes before the numbers that are left.
-    let mut board = with_next_number(65_536);
-    for datagram in ["208C", "208C0101", "208C0000", "208C000000"] {
-        assert_eq!(board.say(datagram), "rejected 1080");
-    }
-    assert_eq!(board.say("208C01"), "rejected 1000");
-}
-
-#[test]
-fn all_or_none_of_the_unique_ids_asked_for() {
-    for next_number in [
-        0, 1, 255, 256, 65_527, 65_528, 65_529, 65_534, 65_535, 65_536,
-    ] {
-        let left = 65_536 - next_number;
-        for count in 1..=8 {
-            let mut board = with_next_number(next_number);
-            let asked = count % 8;
-            let expected = if count <= left {
-                ids(NODE_ID, next_number, count)
-            } else {
-                "rejected 1000".to_string()
-            };
-            let answer = board.say(&format!("208C{asked:02X}"));
-            assert_eq!(answer, expected, "{next_number}, {count}");
-        }
-    }
-    // Exactly the last ones.
-    assert_eq!(
-        with_next_number(65_528).say("208C00"),
-        ids(NODE_ID, 65_528, 8)
-    );
-    assert_eq!(with_next_number(65_529).say("208C00"), "rejected 1000");
-    assert_eq!(
-        with_next_number(65_535).say("208C01"),
-        "208D05010101022BFFFF"
-    );
-}
-
-#[test]
-fn after_the_last_number_there_is_none() {
-    let mut board = with_next_number(65_533);
-    assert_eq!(board.say("208C04"), "rejected 1000");
-    assert_eq!(board.say("208C02"), ids(NODE_ID, 65_533, 2));
-    assert_eq!(board.say("208C02"), "rejected 1000");
-    assert_eq!(board.say("208C01"), ids(NODE_ID, 65_535, 1));
-    assert_eq!(board.event_numbers.next_number, 65_536);
-    for asked in 0..=255u8 {
-        assert_eq!(board.say(&format!("208C{asked:02X}")), "rejected 1000");
-    }
-    // Nothing else is asked for a number.
-    assert_eq!(board.say("20A8"), "update complete");
-    assert_eq!(board.say("20010000000011"), "written 0+1");
-    assert_eq!(board.say("2080"), "2082E000F2FF10");
-}
-
-#[test]
-fn node_ids_of_any_bytes() {
-    for node_id in [
-        [0; 6],
-        [255; 6],
-        [1, 2, 3, 4, 5, 6],
-        [0, 0, 0, 0, 0, 1],
-        [0x80, 0, 0, 0, 0, 0],
-    ] {
-        for next_number in [0, 254, 0x1234, 65_528] {
-            let mut board = with_next_number(next_number);
-            board.event_numbers.node_id = node_id;
-            let expected = ids(&digits(&node_id), next_number, 8);
-            assert_eq!(board.say("208C08"), expected);
-            assert_eq!(board.event_numbers.node_id, node_id);
-        }
-    }
-    // The node ID is not the lock, and the lock not the node ID.
-    let mut board = Bench::demo();
-    board.lock = [9; 6];
-    assert_eq!(board.say("208C01"), ids(NODE_ID, 0, 1));
-    assert_eq!(board.say("2088010203040506"), "208A090909090909");
-}
-
-#[test]
-fn no_other_command_touches_the_event_numbers() {
-    // What the answers must leave as it is, say asserts.
-    let mut numbers = common::Numbers(0x2545_F491_4F6C_DD1D);
-    for next_number in [0, 7, 65_528, 65_535, 65_536] {
-        let mut board = with_next_number(next_number);
-        for command in (0..=255u8).filter(|&command| command != 0x8C) {
-            for length in [0, 1, 5, 6, 7, 70, 71] {
-                let tail = digits(&numbers.bytes(length));
-                board.say(&format!("20{command:02X}{tail}"));
-            }
-        }
-        assert_eq!(board.event_numbers.next_number, next_number);
-    }
 }
 
 #[test]

@@ -217,7 +217,7 @@ fn a_write_that_fails_has_no_effect() {
 }
 
 #[test]
-fn reads_locks_unique_ids_and_update_complete_have_no_effect() {
+fn reads_locks_and_update_complete_have_no_effect() {
     let board = Bench::demo();
     for datagram in [
         "20410000000001",
@@ -228,8 +228,6 @@ fn reads_locks_unique_ids_and_update_complete_have_no_effect() {
         "208411",
         "2088010203040506",
         "2088000000000000",
-        "208C01",
-        "208C00",
         "20A8",
     ] {
         does_nothing(&board, datagram);
@@ -557,7 +555,7 @@ fn the_effect_of_a_list_is_what_the_board_does() {
 }
 
 #[test]
-fn what_is_accepted_does_not_depend_on_memory_lock_or_event_numbers() {
+fn what_is_accepted_does_not_depend_on_memory_or_lock() {
     let mut numbers = Numbers(0xD1B5_4A32_D192_ED03);
     for _ in 0..300 {
         let board = random_board(&mut numbers, 8);
@@ -566,8 +564,6 @@ fn what_is_accepted_does_not_depend_on_memory_lock_or_event_numbers() {
         for memory in memories(&mut numbers, board.memory.len()) {
             let mut board = board.clone();
             board.lock = [numbers.byte(); 6];
-            board.event_numbers.node_id = [numbers.byte(); 6];
-            board.event_numbers.next_number = numbers.one_of(&[0, 1, 65_535, 65_536]);
             board.flash = numbers.bytes(16);
             let (answers, _) = answers(&board, &memory, &list);
             let written: Vec<_> = answers

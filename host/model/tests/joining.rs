@@ -17,7 +17,6 @@ fn send(board: &mut Bench, header: u32, data: &[u8]) -> FrameAnswer {
     if !matches!(answer, Handled(_)) {
         assert_eq!(board.memory, before.memory);
         assert_eq!(board.lock, before.lock);
-        assert_eq!(board.event_numbers, before.event_numbers);
     }
     if !matches!(answer, Handled(Answer::Replied(_))) {
         assert!(board.reply.iter().all(|&byte| byte == FILL));

@@ -144,51 +144,6 @@ fn one_rejection_is_printed_for_one_broken_datagram() {
     assert_eq!(whole(&input), output);
 }
 
-/// What is printed for a request of the tool 123 that is answered with so many IDs from this number
-/// on: Received OK, and the reply in frames.
-fn given(start: u32, count: u32) -> String {
-    let ids: String = (start..start + count)
-        .map(|number| format!("05010101022B{number:04X}"))
-        .collect();
-    let (first, rest) = ids.split_at(12);
-    let mut lines = format!(":X19A2822BN012380;\n:X1B12322BN208D{first};\n");
-    let (middles, last) = rest.split_at((rest.len() - 4) / 16 * 16);
-    for middle in middles.as_bytes().chunks(16) {
-        let middle = std::str::from_utf8(middle).unwrap();
-        lines += &format!(":X1C12322BN{middle};\n");
-    }
-    lines + &format!(":X1D12322BN{last};\n")
-}
-
-#[test]
-fn unique_ids_up_to_the_last_one_and_past_it() {
-    assert_eq!(
-        given(0, 1),
-        ":X19A2822BN012380;\n:X1B12322BN208D05010101022B;\n:X1D12322BN0000;\n"
-    );
-    let ask = |asked: u32| format!(":X1A22B123N208C{asked:02X};\n");
-    let rejected = ":X19A4822BN01231000;\n";
-    let mut input = ask(1) + &ask(0) + &ask(0x0F) + ":X1A22B123N208C;\n:X1A22B123N208C0101;\n";
-    let mut output = given(0, 1) + &given(1, 8) + &given(9, 7);
-    output += &":X19A4822BN01231080;\n".repeat(2);
-    for start in (16..65_528).step_by(8) {
-        input += &ask(0);
-        output += &given(start, 8);
-    }
-    // Eight are left: seven, then two too many, then the last, and then none.
-    input += &[ask(7), ask(2), ask(0), ask(1), ask(1), ask(0)].concat();
-    output += &[
-        given(65_528, 7),
-        rejected.repeat(2),
-        given(65_535, 1),
-        rejected.repeat(2),
-    ]
-    .concat();
-    assert!(output.contains(":X1D12322BNFFFF;\n"));
-    assert_eq!(answers(&input, 65_536), output);
-    assert_eq!(whole(&input), output);
-}
-
 #[test]
 fn every_frame_comes_at_tick_0() {
     // However many lines come between, nothing that is unfinished is dropped.

@@ -58,7 +58,6 @@ fn tick(board: &mut Bench, time: u64) {
     board.lone_tick().expect("no error of the caller");
     assert_eq!(board.memory, before.memory);
     assert_eq!(board.lock, before.lock);
-    assert_eq!(board.event_numbers, before.event_numbers);
     assert_eq!(board.reply, before.reply);
 }
 

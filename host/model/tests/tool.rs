@@ -5,11 +5,11 @@ mod common;
 
 use std::collections::HashSet;
 
-use common::{digits, hex, in_flash, read_only, space, Bench, Numbers, FILL};
+use common::{hex, in_flash, read_only, space, Bench, Numbers, FILL};
 use model::{
     read_received_ok, read_rejected, read_reply, received_ok_frame, rejected_frame,
     transport_reply, write_command, Answer, FrameAnswer, NamedSpace, ReceivedOk, RejectedContent,
-    Reply, Request, ToolRefusal, UniqueId,
+    Reply, Request, ToolRefusal,
 };
 
 const SIXTY_SIX: [u8; 66] = [0x5A; 66];
@@ -148,16 +148,6 @@ fn lengths_of_node_ids_out_of_range() {
 }
 
 #[test]
-fn numbers_of_unique_ids_out_of_range() {
-    for count in 0..=255 {
-        assert_in_range(&Request::UniqueIds { count }, (1..=8).contains(&count));
-    }
-    for count in [0, 9, 16, 255] {
-        assert_eq!(refused(&Request::UniqueIds { count }, 72), ToolRefusal::W1);
-    }
-}
-
-#[test]
 fn buffers_under_72_bytes_after_the_range() {
     let in_range = [
         read(0x10, 0, 1),
@@ -169,7 +159,6 @@ fn buffers_under_72_bytes_after_the_range() {
         Request::Options,
         Request::Information { space: 0xFD },
         Request::Lock { id: &[0; 6] },
-        Request::UniqueIds { count: 8 },
         Request::UpdateComplete,
     ];
     for request in in_range {
@@ -183,7 +172,6 @@ fn buffers_under_72_bytes_after_the_range() {
         write(0x10, 0, &SIXTY_SIX[..65]),
         write_masked(0x10, 0, &[1]),
         Request::Lock { id: &[0; 5] },
-        Request::UniqueIds { count: 9 },
     ];
     for request in out_of_range {
         for size in [0, 71, 72] {
@@ -226,16 +214,19 @@ fn the_bytes_of_each_command() {
     let id = &hex("050101011805");
     of(Request::Lock { id }, "2088 050101011805");
     of(Request::Lock { id: &[0; 6] }, "2088 000000000000");
-    of(Request::UniqueIds { count: 1 }, "208C 01");
-    of(Request::UniqueIds { count: 7 }, "208C 07");
-    of(Request::UniqueIds { count: 8 }, "208C 00");
     of(Request::UpdateComplete, "20A8");
 }
 
 #[test]
 fn the_demonstration_board_answers_written_commands() {
     let mut board = Bench::demo();
-    let mut say = |request: Request| board.say(&digits(&written(&request)));
+    let mut say = |request: Request| {
+        let command: String = written(&request)
+            .iter()
+            .map(|byte| format!("{byte:02X}"))
+            .collect();
+        board.say(&command)
+    };
     assert_eq!(say(write(0xFD, 2, &[0xAB, 0xCD])), "written 2+2");
     assert_eq!(say(read(0xFD, 2, 2)), "205100000002ABCD");
     assert_eq!(say(write_masked(0xFD, 2, &[0x0F, 0x5A])), "written 2+1");
@@ -251,25 +242,16 @@ fn the_demonstration_board_answers_written_commands() {
     );
     assert_eq!(say(Request::Lock { id: &[9; 6] }), "208A090909090909");
     assert_eq!(say(Request::Lock { id: &[0; 6] }), "208A000000000000");
-    assert_eq!(
-        say(Request::UniqueIds { count: 2 }),
-        "208D05010101022B000005010101022B0001"
-    );
-    assert_eq!(say(Request::UniqueIds { count: 8 }).len(), 2 * 66);
-    assert_eq!(say(Request::UniqueIds { count: 1 }), "208D05010101022B000A");
     assert_eq!(say(Request::UpdateComplete), "update complete");
 }
 
-/// The request that document 01 and C-17 have the board read in a datagram, written here apart from
-/// the library; `None` for one that the board rejects, whatever it has.
+/// The request that document 01 has the board read in a datagram, written here apart from the
+/// library; `None` for one that the board rejects.
 fn board_reads(datagram: &[u8]) -> Option<Request<'_>> {
     match *datagram {
         [0x20, 0x80] => Some(Request::Options),
         [0x20, 0x84, space] => Some(Request::Information { space }),
         [0x20, 0x88, ref id @ ..] if id.len() == 6 => Some(Request::Lock { id }),
-        [0x20, 0x8C, asked] => Some(Request::UniqueIds {
-            count: if asked % 8 == 0 { 8 } else { asked % 8 },
-        }),
         [0x20, 0xA8] => Some(Request::UpdateComplete),
         [0x20, command, a, b, c, d, ref behind @ ..] => {
             let address = u32::from_be_bytes([a, b, c, d]);
@@ -294,7 +276,6 @@ fn board_reads(datagram: &[u8]) -> Option<Request<'_>> {
 /// writer's command for that request is not longer, and the same unless the datagram spends a
 /// byte 6 or a reserved bit that the writer does not. Says whether it is accepted.
 fn assert_no_form_is_shorter(board: &mut Bench, datagram: &[u8]) -> bool {
-    board.event_numbers.next_number = 0;
     let accepted = !matches!(board.datagram(datagram), Ok(Answer::Rejected(_)));
     let request = board_reads(datagram);
     assert_eq!(accepted, request.is_some(), "{datagram:02X?}");
@@ -308,14 +289,8 @@ fn assert_no_form_is_shorter(board: &mut Bench, datagram: &[u8]) -> bool {
         [_, 0x00 | 0x08 | 0x40, _, _, _, _, 0xFD..=0xFF, ..]
     );
     assert_eq!(command.len() + usize::from(long_form), datagram.len());
-    // How many values the last byte has whose reserved bits are zero.
-    let values = match request {
-        Request::Read { .. } => 0x80,
-        Request::UniqueIds { .. } => 0x08,
-        _ => 0x100,
-    };
-    let reserved = datagram.last().map(|&byte| usize::from(byte)) >= Some(values);
-    assert_eq!(command == datagram, !long_form && !reserved);
+    let top_bit = matches!(request, Request::Read { .. }) && datagram.last() >= Some(&0x80);
+    assert_eq!(command == datagram, !long_form && !top_bit);
     true
 }
 
@@ -334,8 +309,8 @@ fn no_accepted_form_of_up_to_three_bytes_is_shorter() {
             count(&[0x20, first, second]);
         }
     }
-    // 20 80, 20 A8, 20 84 with each space, and 20 8C with any byte.
-    assert_eq!(accepted, 2 + 256 + 256);
+    // 20 80, 20 A8, and 20 84 with each space.
+    assert_eq!(accepted, 2 + 256);
 }
 
 #[test]
@@ -379,7 +354,7 @@ fn no_accepted_form_of_any_length_is_shorter() {
             }
         }
     }
-    assert_eq!(accepted.iter().filter(|&&command| command).count(), 17);
+    assert_eq!(accepted.iter().filter(|&&command| command).count(), 16);
 }
 
 #[test]
@@ -392,9 +367,6 @@ fn unequal_requests_have_unequal_bytes() {
     };
     add(Request::Options);
     add(Request::UpdateComplete);
-    for count in 1..=8 {
-        add(Request::UniqueIds { count });
-    }
     for space in 0..=255u8 {
         add(Request::Information { space });
         add(Request::Lock {
@@ -489,7 +461,7 @@ fn the_transport_replies_of_the_board() {
         };
         assert_eq!(read_received_ok(&frame.data()[2..]), Ok(expected));
     }
-    for code in [0x1000, 0x1080, 0x1041, 0x1042, 0x2000, 0x2020, 0x2040] {
+    for code in [0x1080, 0x1041, 0x1042, 0x2000, 0x2020, 0x2040] {
         let frame = rejected_frame(0x22B, 0x123, code);
         assert_eq!(read_rejected(&frame.data()[2..]), rejected(code, &[]));
     }
@@ -573,7 +545,6 @@ fn composed(reply: &Reply) -> Vec<u8> {
             bytes
         }
         Reply::Lock { id } => [&[0x20, 0x8A][..], &id].concat(),
-        Reply::UniqueIds { ids } => [&[0x20, 0x8D][..], &ids.concat()].concat(),
     }
 }
 
@@ -598,7 +569,6 @@ fn has_a_form(bytes: &[u8]) -> bool {
         0x86 | 0x87 if length < 8 => false,
         0x86 | 0x87 => text_from(if bytes[7] & 0x02 == 0 { 8 } else { 12 }),
         0x8A => length == 8,
-        0x8D => [10, 18, 26, 34, 42, 50, 58, 66].contains(&length),
         _ => false,
     }
 }
@@ -895,45 +865,11 @@ fn lock_replies() {
 }
 
 #[test]
-fn replies_with_unique_ids() {
-    let first = [5, 1, 1, 1, 2, 0x2B, 0, 0];
-    let last = [5, 1, 1, 1, 2, 0x2B, 0xFF, 0xFF];
-    let one = "208D05010101022B0000";
-    reads(one, Reply::UniqueIds { ids: &[first] });
-    reads(
-        "208D05010101022BFFFF05010101022B0000",
-        Reply::UniqueIds {
-            ids: &[last, first],
-        },
-    );
-    // The reader asks nothing of the IDs: any bytes will do, also the same ones again.
-    for fill in [0x00, 0x20, 0x8D, 0xFF] {
-        let ids = [[fill; 8]; 8];
-        for count in 1..=8 {
-            let ids = &ids[..count];
-            reads(
-                &format!("208D{}", digits(&ids.concat())),
-                Reply::UniqueIds { ids },
-            );
-        }
-    }
-    // None, half of one, one and a half, and nine.
-    no_form("208D");
-    no_form("208D05010101022B");
-    no_form("208D05010101022B00");
-    no_form(&format!("{one}05"));
-    no_form(&format!("{one}05010101022B00"));
-    for length in (2..=80).filter(|length| ![10, 18, 26, 34, 42, 50, 58, 66].contains(length)) {
-        no_form(&format!("208D{}", "05".repeat(length - 2)));
-    }
-}
-
-#[test]
 fn no_reply_at_all() {
     no_form("");
     no_form("20");
     no_form("21");
-    // Commands, and replies to commands that neither document 01 nor C-17 covers.
+    // Commands, and replies to commands that document 01 does not cover.
     for other in [
         "2080",
         "20A8",
@@ -946,9 +882,7 @@ fn no_reply_at_all() {
         "2079000000001082",
         "20310000000001020000FFFF",
         "2039000000001082",
-        "208C01",
-        "208C0102030405060708",
-        "208E0102030405060708",
+        "208D0102030405060708",
     ] {
         no_form(other);
     }
@@ -1014,15 +948,7 @@ fn every_command_with_every_length() {
     for (command, &count) in read.iter().enumerate() {
         let reply = matches!(
             command,
-            0x10..=0x13
-                | 0x18..=0x1B
-                | 0x50..=0x53
-                | 0x58..=0x5B
-                | 0x82
-                | 0x86
-                | 0x87
-                | 0x8A
-                | 0x8D
+            0x10..=0x13 | 0x18..=0x1B | 0x50..=0x53 | 0x58..=0x5B | 0x82 | 0x86 | 0x87 | 0x8A
         );
         assert_eq!(count > 0, reply, "{command:02X}");
     }
@@ -1045,7 +971,7 @@ fn replies_with_all_they_may_have_and_then_damaged() {
         let name = NAMES[numbers.below(6) as usize].2;
         let address = numbers.below(u32::MAX);
         let code = numbers.below(0x1_0000) as u16;
-        let reply = match numbers.below(8) {
+        let reply = match numbers.below(7) {
             0 => Reply::Read {
                 space: name,
                 address,
@@ -1082,11 +1008,8 @@ fn replies_with_all_they_may_have_and_then_damaged() {
                 lowest: (data[2] & 0x02 != 0).then_some(address ^ 0x55),
                 text,
             },
-            6 => Reply::Lock {
+            _ => Reply::Lock {
                 id: *data.first_chunk().unwrap(),
-            },
-            _ => Reply::UniqueIds {
-                ids: &data.as_chunks().0[..1 + numbers.below(8) as usize],
             },
         };
         let mut bytes = composed(&reply);
@@ -1122,7 +1045,7 @@ fn bytes_of_any_kind_are_read_or_w3() {
         assert_eq!(read_received_ok(&bytes).is_ok(), length <= 1);
         assert_eq!(read_rejected(&bytes).is_ok(), length <= 66);
         let commands = [
-            0x10, 0x11, 0x18, 0x1B, 0x50, 0x52, 0x58, 0x59, 0x82, 0x86, 0x87, 0x8A, 0x8D,
+            0x10, 0x11, 0x18, 0x1B, 0x50, 0x52, 0x58, 0x59, 0x82, 0x86, 0x87, 0x8A,
         ];
         let begin = [0x20, numbers.one_of(&commands)];
         bytes
@@ -1135,25 +1058,11 @@ fn bytes_of_any_kind_are_read_or_w3() {
 
 // The whole way: a request, its command, the board, and the reading of what comes back.
 
-/// What document 01 and C-17 have the board do with a request, written here apart from the library.
+/// What document 01 has the board do with a request, written here apart from the library.
 enum Deed<'b> {
     Reply(Reply<'b>),
-    Give(Vec<UniqueId>),
-    Reject(u16),
     Write { start: usize, memory: Vec<u8> },
     Nothing,
-}
-
-/// So many IDs of the board, if so many are left.
-fn given(board: &Bench, count: u8) -> Deed<'static> {
-    let next = u64::from(board.event_numbers.next_number);
-    if u64::from(count) > 65_536 - next {
-        return Deed::Reject(0x1000);
-    }
-    let [a, b, c, d, e, f] = board.event_numbers.node_id;
-    let numbers = next..next + u64::from(count);
-    let ids = numbers.map(|number| [a, b, c, d, e, f, (number / 256) as u8, (number % 256) as u8]);
-    Deed::Give(ids.collect())
 }
 
 fn deed<'b>(board: &'b Bench, request: &Request, name: NamedSpace) -> Deed<'b> {
@@ -1266,7 +1175,6 @@ fn deed<'b>(board: &'b Bench, request: &Request, name: NamedSpace) -> Deed<'b> {
                 board.lock
             },
         }),
-        Request::UniqueIds { count } => given(board, count),
         Request::UpdateComplete => Deed::Nothing,
     }
 }
@@ -1284,7 +1192,7 @@ fn any_request<'a>(numbers: &mut Numbers, board: &Bench, bytes: &'a [u8]) -> Req
     }
     let most = numbers.one_of(&[4, 16, 64]);
     let length = 1 + numbers.below(most) as usize;
-    match numbers.below(17) {
+    match numbers.below(16) {
         0..=4 => read(space, address, length as u8),
         5..=8 => write(space, address, &bytes[..length]),
         9..=11 => write_masked(space, address, &bytes[..(length + 1) & !1]),
@@ -1293,7 +1201,6 @@ fn any_request<'a>(numbers: &mut Numbers, board: &Bench, bytes: &'a [u8]) -> Req
         14 => Request::Lock {
             id: if any < 128 { &[0; 6] } else { &bytes[..6] },
         },
-        15 => Request::UniqueIds { count: 1 + any % 8 },
         _ => Request::UpdateComplete,
     }
 }
@@ -1323,11 +1230,8 @@ fn what_the_board_answers_to_requests_is_read() {
     ]);
     large.memory = numbers.bytes(256);
     large.flash = numbers.bytes(100);
-    // One that has given almost all its numbers.
-    let mut old = Bench::with_spaces(&[]);
-    old.event_numbers.next_number = 65_536 - 2_000;
-    let mut seen = [0u32; 11];
-    for mut board in [Bench::demo(), large, old] {
+    let mut seen = [0u32; 9];
+    for mut board in [Bench::demo(), large, Bench::with_spaces(&[])] {
         for _ in 0..12_000 {
             let bytes = numbers.bytes(64);
             let request = any_request(&mut numbers, &board, &bytes);
@@ -1344,10 +1248,8 @@ fn what_the_board_answers_to_requests_is_read() {
                     command = long;
                     name = long_name;
                 }
-                match request {
-                    Request::Read { .. } => *command.last_mut().unwrap() |= 0x80,
-                    Request::UniqueIds { .. } => command[2] |= numbers.byte() << 3,
-                    _ => {}
+                if matches!(request, Request::Read { .. }) {
+                    *command.last_mut().unwrap() |= 0x80;
                 }
             }
             assert_eq!(board_reads(&command), Some(request));
@@ -1355,23 +1257,9 @@ fn what_the_board_answers_to_requests_is_read() {
             let before = board.clone();
             let answer = board.datagram(&command).unwrap();
             let frame = transport_reply(0x22B, 0x123, FrameAnswer::Handled(answer)).unwrap();
-            if let Answer::Rejected(code) = answer {
-                assert!(matches!(deed(&before, &request, name), Deed::Reject(due) if due == code));
-                assert_eq!(read_rejected(&frame.data()[2..]), rejected(code, &[]));
-                board.assert_as(&before);
-                seen[10] += 1;
-                continue;
-            }
             let transport = read_received_ok(&frame.data()[2..]).unwrap();
             assert_eq!(transport.timeout, 0);
             let kind = match (deed(&before, &request, name), answer) {
-                (Deed::Give(ids), Answer::Replied(length)) => {
-                    let reply = read_reply(&board.reply[..length]);
-                    assert_eq!(reply, Ok(Reply::UniqueIds { ids: &ids }));
-                    assert!(transport.reply_pending);
-                    assert_eq!(board.memory, before.memory);
-                    9
-                }
                 (Deed::Reply(expected), Answer::Replied(length)) => {
                     let reply = read_reply(&board.reply[..length]);
                     assert_eq!(reply, Ok(expected), "{request:?}");
@@ -1381,7 +1269,6 @@ fn what_the_board_answers_to_requests_is_read() {
                         Reply::Read { .. } => 0,
                         Reply::ReadFailed { .. } => 1,
                         Reply::Written { .. } => unreachable!("the board has no such reply"),
-                        Reply::UniqueIds { .. } => unreachable!("IDs are given"),
                         Reply::WriteFailed { .. } => 2,
                         Reply::Options { .. } => 3,
                         Reply::Information { present: false, .. } => 4,

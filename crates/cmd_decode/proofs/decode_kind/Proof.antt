@@ -55,28 +55,19 @@ unfolding decode_kind
 returns-7 c =
     let o = c.before.before.before in
     let d = o.before.before.before.args.datagram.now in
-    rw (is-kind o.before.command-in.ensures o.kind-of.ensures c.before.enum-told7.given.1) (ap (λ r. reading_of r d) c.decode-unique-ids.ensures ∙ fixed_reads 3 d _)
+    rw (is-kind o.before.command-in.ensures o.kind-of.ensures c.before.enum-told7.given.1) (ap (λ r. reading_of r d) c.of-length3.ensures ∙ fixed_reads 2 d _)
 
 returns-8 : tie.Need-returns-8
 unfolding decode_kind
 returns-8 c =
-    let o = c.before.before.before in
-    let d = o.before.before.before.args.datagram.now in
-    rw (is-kind o.before.command-in.ensures o.kind-of.ensures c.before.enum-told8.given.1) (ap (λ r. reading_of r d) c.of-length3.ensures ∙ fixed_reads 2 d _)
-
-returns-9 : tie.Need-returns-9
-unfolding decode_kind
-returns-9 c =
     let o = c.before.before in
-    rw (is-kind o.before.command-in.ensures o.kind-of.ensures c.enum-told9.given.1)
+    rw (is-kind o.before.command-in.ensures o.kind-of.ensures c.enum-told8.given.1)
 
 pub decode-kind-spec : {M : Type 1} → statement M
 decode-kind-spec =
     tie.close
     (tie.spec
     (λ c κs. search rules)
-    (λ c κs. search rules)
-    (λ c. search rules)
     (λ c κs. search rules)
     (λ c. search rules)
     (λ c κs. search rules)
@@ -100,5 +91,4 @@ decode-kind-spec =
     returns-5
     returns-6
     returns-7
-    returns-8
-    returns-9)
+    returns-8)

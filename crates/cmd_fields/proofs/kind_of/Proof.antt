@@ -1,20 +1,11 @@
 -- `kind_of` meets its contract: each kind by its range.
 -- Assumes nothing.
-use Prim.Native.Nat.{◌≤◌}
-use mathlib.Core.Path.{◌≡◌, sym}
+use mathlib.Core.Path.{sym}
 use native.Mathlib.Omega.{arith}
 use Rattle.cmd_fields.specs.Commands.{kind_of_command}
-use Rattle.cmd_fields.specs.declared.Kind.TheVariants.{Unknown}
 use Rattle.cmd_fields.proofs.Laws.{is_read, is-write, is-masked, is-unknown}
 use Rattle.cmd_fields.proofs.kind_of.Statement.{statement}
 use Rattle.cmd_fields.proofs.kind_of.Tie as tie
-
--- a command of no range is none of the single ones either
-unknown : (r : tie.At-match-rest) → let c = r.before.args.command in
-    (0x40 ≤ c → c ≤ 0x43 → ⊥) → (c ≤ 0x03 → ⊥) → (0x08 ≤ c → c ≤ 0x0B → ⊥) → kind_of_command c ≡ Unknown
-unknown r a b c =
-    let others = r.match.rest in
-    is-unknown r.before.args.command a b c others.0.0.0.0.1 others.0.0.0.1 others.0.0.1 others.0.1 others.1
 
 returns : tie.Need-returns
 unfolding kind_of_command
@@ -33,26 +24,22 @@ unfolding kind_of_command
 returns-4 c = rw c.match.keys4
 
 returns-5 : tie.Need-returns-5
-unfolding kind_of_command
-returns-5 c = rw c.match.keys5
+returns-5 c = sym (is-write c.before.before.args.command (omega arith))
 
 returns-6 : tie.Need-returns-6
-returns-6 c = sym (is-write c.before.before.args.command (omega arith))
+returns-6 c = sym (is-masked c.before.before.before.before.args.command (omega arith) (omega arith))
 
 returns-7 : tie.Need-returns-7
-returns-7 c = sym (is-masked c.before.before.before.before.args.command (omega arith) (omega arith))
+returns-7 c = sym (is_read c.before.before.before.before.before.before.args.command (omega arith) (omega arith))
 
 returns-8 : tie.Need-returns-8
-returns-8 c = sym (is_read c.before.before.before.before.before.before.args.command (omega arith) (omega arith))
+returns-8 c = sym (is-unknown c.before.before.before.args.command (λ p q. omega arith) (λ p. omega arith) (λ p q. omega arith) c.before.before.match.rest.0.0.0.1 c.before.before.match.rest.0.0.1 c.before.before.match.rest.0.1 c.before.before.match.rest.1)
 
 returns-9 : tie.Need-returns-9
-returns-9 c = sym (unknown c.before.before (λ p q. omega arith) (λ p. omega arith) (λ p q. omega arith))
+returns-9 c = sym (is-unknown c.before.before.before.before.before.args.command (λ p q. omega arith) (λ p. omega arith) (λ p q. omega arith) c.before.before.before.before.match.rest.0.0.0.1 c.before.before.before.before.match.rest.0.0.1 c.before.before.before.before.match.rest.0.1 c.before.before.before.before.match.rest.1)
 
 returns-10 : tie.Need-returns-10
-returns-10 c = sym (unknown c.before.before.before.before (λ p q. omega arith) (λ p. omega arith) (λ p q. omega arith))
-
-returns-11 : tie.Need-returns-11
-returns-11 c = sym (unknown c.before.before.before.before.before (λ p q. omega arith) (λ p. omega arith) (λ p q. omega arith))
+returns-10 c = sym (is-unknown c.before.before.before.before.before.before.args.command (λ p q. omega arith) (λ p. omega arith) (λ p q. omega arith) c.before.before.before.before.before.match.rest.0.0.0.1 c.before.before.before.before.before.match.rest.0.0.1 c.before.before.before.before.before.match.rest.0.1 c.before.before.before.before.before.match.rest.1)
 
 pub kind_of_spec : {M : Type 1} → statement M
 kind_of_spec =
@@ -67,5 +54,4 @@ kind_of_spec =
     returns-7
     returns-8
     returns-9
-    returns-10
-    returns-11)
+    returns-10)

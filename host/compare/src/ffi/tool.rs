@@ -9,7 +9,7 @@ use super::room::{blank, Room};
 use super::{Flag, Places, Pool};
 
 /// The version of the edge that this module is written for.
-pub const VERSION: u32 = 0x0003_0001;
+pub const VERSION: u32 = 0x0003_0000;
 
 /// What comes of writing a command.
 #[derive(Clone, Copy, Debug, PartialEq, Eq)]
@@ -88,7 +88,7 @@ pub struct Information {
 pub struct Reply {
     /// Which of the others count: 0 none, which is W3; 1 the bytes read, 2 a read that failed; 3 a
     /// write that is done, 4 one that failed; 5 the options; 6 the information on a space; 7 who
-    /// holds the lock; 8 unique IDs.
+    /// holds the lock.
     pub kind: u32,
     /// The address, for kinds 1 to 4.
     pub address: u32,
@@ -102,7 +102,7 @@ pub struct Reply {
     pub options: Options,
     /// For kind 6.
     pub information: Information,
-    /// The data, the text, the lock or the unique IDs.
+    /// The data, the text or the lock.
     pub bytes: Bytes,
 }
 
@@ -308,12 +308,6 @@ extern "C" {
         buffer_len: u64,
         composed: *mut u8,
     );
-    fn bujorelm_compose_unique_ids(
-        count: u64,
-        buffer: *mut u8,
-        buffer_len: u64,
-        composed: *mut u8,
-    );
     fn bujorelm_compose_update_complete(buffer: *mut u8, buffer_len: u64, composed: *mut u8);
     fn bujorelm_read_received_ok(content: *const u8, content_len: u64, acknowledged: *mut u8);
     fn bujorelm_read_rejected(content: *const u8, content_len: u64, rejection: *mut u8);
@@ -408,14 +402,6 @@ pub fn compose_lock(id: &[u8], buffer: &mut [u8]) -> Composed {
     composed(buffer, |buffer, len, room| {
         // SAFETY: as for a write.
         unsafe { bujorelm_compose_lock(id, count, buffer, len, room) }
-    })
-}
-
-/// Writes the command that asks for unique IDs.
-pub fn compose_unique_ids(count: usize, buffer: &mut [u8]) -> Composed {
-    composed(buffer, |buffer, len, room| {
-        // SAFETY: as for a read.
-        unsafe { bujorelm_compose_unique_ids(count as u64, buffer, len, room) }
     })
 }
 

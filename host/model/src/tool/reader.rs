@@ -1,9 +1,8 @@
 //! Holds the readers of what comes back to the tool: Received OK, Rejected and reply datagrams
 //! (W3).
 
-use super::{NamedSpace, ToolRefusal, CONTENT_ID, MOST_DATA, MOST_IDS};
+use super::{NamedSpace, ToolRefusal, CONTENT_ID, MOST_DATA};
 use crate::datagram::{Lock, LONGEST_DATAGRAM};
-use crate::event_numbers::UniqueId;
 
 /// The most bytes behind the code of a Rejected.
 const MOST_FURTHER: usize = 64;
@@ -146,17 +145,12 @@ pub enum Reply<'d> {
         /// The node ID that holds the board, zero where none does.
         id: Lock,
     },
-    /// 0x8D: unique IDs.
-    UniqueIds {
-        /// The IDs, 1 to 8.
-        ids: &'d [UniqueId],
-    },
 }
 
 /// Reads a reply datagram.
 ///
-/// W3 for bytes that are no reply to a command of document 01 or C-17 in a form of source document
-/// 000, such as any over 72.
+/// W3 for bytes that are no reply to a command of document 01 in a form of source document 000,
+/// such as any over 72.
 pub fn read_reply(datagram: &[u8]) -> Result<Reply<'_>, ToolRefusal> {
     if datagram.len() > LONGEST_DATAGRAM {
         return Err(ToolRefusal::W3);
@@ -191,7 +185,6 @@ pub fn read_reply(datagram: &[u8]) -> Result<Reply<'_>, ToolRefusal> {
         0x86 => read_information(false, bytes),
         0x87 => read_information(true, bytes),
         0x8A => read_lock(bytes),
-        0x8D => read_unique_ids(bytes),
         _ => Err(ToolRefusal::W3),
     }
 }
@@ -333,12 +326,4 @@ fn read_lock(mut bytes: Untaken<'_>) -> Result<Reply<'_>, ToolRefusal> {
     let id = bytes.array()?;
     bytes.end()?;
     Ok(Reply::Lock { id })
-}
-
-/// Only whole IDs, and not none.
-fn read_unique_ids(bytes: Untaken<'_>) -> Result<Reply<'_>, ToolRefusal> {
-    match bytes.0.as_chunks() {
-        (ids, []) if (1..=MOST_IDS).contains(&ids.len()) => Ok(Reply::UniqueIds { ids }),
-        _ => Err(ToolRefusal::W3),
-    }
 }

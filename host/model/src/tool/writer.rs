@@ -1,6 +1,6 @@
 //! Holds the writer: each request of the tool as the one command that asks for it (W1, W2).
 
-use super::{NamedSpace, ToolRefusal, CONTENT_ID, MOST_DATA, MOST_IDS};
+use super::{NamedSpace, ToolRefusal, CONTENT_ID, MOST_DATA};
 use crate::datagram::{Lock, LONGEST_DATAGRAM};
 
 const WRITE: u8 = 0x00;
@@ -9,7 +9,6 @@ const READ: u8 = 0x40;
 const OPTIONS: u8 = 0x80;
 const INFORMATION: u8 = 0x84;
 const LOCK: u8 = 0x88;
-const UNIQUE_IDS: u8 = 0x8C;
 const UPDATE_COMPLETE: u8 = 0xA8;
 
 /// What the tool asks of the board.
@@ -56,11 +55,6 @@ pub enum Request<'a> {
         /// The node ID, six bytes.
         id: &'a [u8],
     },
-    /// Ask for unique IDs.
-    UniqueIds {
-        /// How many, 1 to 8.
-        count: u8,
-    },
     /// Say that the update is complete.
     UpdateComplete,
 }
@@ -75,7 +69,6 @@ impl Request<'_> {
                 !pairs.is_empty() && pairs.len() <= MOST_DATA && pairs.len() % 2 == 0
             }
             Self::Lock { id } => id.len() == size_of::<Lock>(),
-            Self::UniqueIds { count } => (1..=MOST_IDS).contains(&usize::from(*count)),
             Self::Options | Self::Information { .. } | Self::UpdateComplete => true,
         }
     }
@@ -114,10 +107,6 @@ pub fn write_command(request: &Request<'_>, buffer: &mut [u8]) -> Result<usize, 
         Request::Options => put(&[&[CONTENT_ID, OPTIONS]], buffer),
         Request::Information { space } => put(&[&[CONTENT_ID, INFORMATION, space]], buffer),
         Request::Lock { id } => put(&[&[CONTENT_ID, LOCK], id], buffer),
-        // Of the three bits for the count eight has none set.
-        Request::UniqueIds { count } => {
-            put(&[&[CONTENT_ID, UNIQUE_IDS, count % MOST_IDS as u8]], buffer)
-        }
         Request::UpdateComplete => put(&[&[CONTENT_ID, UPDATE_COMPLETE]], buffer),
     })
 }

@@ -4,7 +4,7 @@
 
 use model::{
     demo_board, handle_datagram, handle_frame, handle_time, Answer, CallError, Description,
-    EventNumbers, FrameAnswer, Kept, Reception, Space, Unfinished, UniqueId,
+    FrameAnswer, Kept, Reception, Space, Unfinished,
 };
 
 /// What fills a reply buffer before a call.
@@ -17,20 +17,6 @@ pub fn hex(text: &str) -> Vec<u8> {
         .step_by(2)
         .map(|at| u8::from_str_radix(&digits[at..at + 2], 16).unwrap())
         .collect()
-}
-
-pub fn digits(bytes: &[u8]) -> String {
-    bytes.iter().map(|byte| format!("{byte:02X}")).collect()
-}
-
-/// The unique IDs that a reply datagram has, read from its bytes alone; of any other reply none.
-pub fn unique_ids(reply: &[u8]) -> Vec<UniqueId> {
-    let Some(ids) = reply.strip_prefix(&[0x20, 0x8D]) else {
-        return Vec::new();
-    };
-    let (ids, behind) = ids.as_chunks();
-    assert!(behind.is_empty(), "{reply:02X?}");
-    ids.to_vec()
 }
 
 pub const fn space(number: u8, lowest: u32, highest: u32, offset: u32) -> Space {
@@ -76,7 +62,6 @@ pub struct Bench {
     pub flash: Vec<u8>,
     pub memory: Vec<u8>,
     pub lock: [u8; 6],
-    pub event_numbers: EventNumbers,
     pub reception: Reception,
     pub reply: Vec<u8>,
     /// The time that frames and lone ticks come with.
@@ -93,7 +78,6 @@ impl Bench {
             flash: board.flash.to_vec(),
             memory: board.memory.to_vec(),
             lock: board.lock,
-            event_numbers: board.event_numbers,
             reception: board.reception,
             reply: vec![FILL; 80],
             time: 0,
@@ -118,7 +102,6 @@ impl Bench {
             &self.flash,
             &mut self.memory,
             &mut self.lock,
-            &mut self.event_numbers,
             datagram,
             &mut self.reply,
         )
@@ -135,7 +118,6 @@ impl Bench {
             &self.flash,
             &mut self.memory,
             &mut self.lock,
-            &mut self.event_numbers,
             &mut self.reception,
             self.time,
             header,
@@ -161,13 +143,11 @@ impl Bench {
             Answer::Rejected(code) => {
                 assert_eq!(self.memory, before.memory);
                 assert_eq!(self.lock, before.lock);
-                assert_eq!(self.event_numbers, before.event_numbers);
                 assert!(self.reply.iter().all(|&byte| byte == FILL));
                 format!("rejected {code:04X}")
             }
             Answer::Written { start, count } => {
                 assert_eq!(self.lock, before.lock);
-                assert_eq!(self.event_numbers, before.event_numbers);
                 assert!(self.reply.iter().all(|&byte| byte == FILL));
                 assert!((1..=64).contains(&count));
                 let mut outside = self.memory.clone();
@@ -178,7 +158,6 @@ impl Bench {
             Answer::UpdateComplete => {
                 assert_eq!(self.memory, before.memory);
                 assert_eq!(self.lock, before.lock);
-                assert_eq!(self.event_numbers, before.event_numbers);
                 assert!(self.reply.iter().all(|&byte| byte == FILL));
                 "update complete".to_string()
             }
@@ -186,21 +165,12 @@ impl Bench {
                 assert!(length <= 72);
                 assert_eq!(self.memory, before.memory);
                 assert!(self.reply[length..].iter().all(|&byte| byte == FILL));
-                let reply = &self.reply[..length];
-                if reply[1] != 0x8A {
-                    assert_eq!(self.lock, before.lock);
-                }
-                self.assert_raised_by(unique_ids(reply).len(), &before);
-                digits(reply)
+                self.reply[..length]
+                    .iter()
+                    .map(|byte| format!("{byte:02X}"))
+                    .collect()
             }
         }
-    }
-
-    /// Asserts that the next number is higher by so many than it was, and the node ID the same.
-    fn assert_raised_by(&self, count: usize, before: &Self) {
-        let mut expected = before.event_numbers;
-        expected.next_number += count as u32;
-        assert_eq!(self.event_numbers, expected);
     }
 
     /// Asserts that every part that document 01 speaks of is the same.
@@ -208,7 +178,6 @@ impl Bench {
         assert_eq!(self.memory, other.memory);
         assert_eq!(self.flash, other.flash);
         assert_eq!(self.lock, other.lock);
-        assert_eq!(self.event_numbers, other.event_numbers);
         assert_eq!(self.reply, other.reply);
         assert!(self.reception.keeps_the_same_as(&other.reception));
     }
