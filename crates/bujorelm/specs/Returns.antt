@@ -1,7 +1,7 @@
 -- What a caller in C finds after a call: the numbers, and what it lent.
 use Rattle.std.specs.Prelude.{ℕ, List, ◌≡◌, length}
 use Rattle.buffer.specs.Buffer.{over}
-use Rattle.buffer.specs.Lent.{LentBytes, before, after}
+use Rattle.buffer.specs.Lent.{LentBytes, GivenBytes, before, after}
 use Rattle.call_error.specs.declared.CallError.{CallError}
 use Rattle.can_frame.specs.declared.Frame.{Frame}
 use Rattle.can_frame_bytes.specs.Layout.{frames_bytes}
@@ -22,7 +22,8 @@ use Rattle.capi_numbers.specs.declared.CallResult.{CallResult}
 -- After the call for a whole datagram: the numbers in the result, the reply buffer, and memory with the registers are
 -- what the definition of the call says. Memory has changed nowhere but in the range that the numbers name, which is
 -- empty for every kind but a write.
-module _ (alias lengths : ℕ) (spaces flash memory registers datagram reply result : LentBytes) where
+module _ (alias lengths : ℕ) (spaces flash : GivenBytes) (memory registers : LentBytes) (datagram : GivenBytes)
+    (reply result : LentBytes) where
   abbrev datagram_leaves : Final
   datagram_leaves = lent_datagram_call alias lengths spaces flash memory registers datagram reply
 
@@ -37,8 +38,8 @@ module _ (alias lengths : ℕ) (spaces flash memory registers datagram reply res
         OnlyWithin datagram_numbers.changed_at datagram_numbers.changed_len (before memory) (after memory)
 
 -- After the frame call: the same, the reception state with its bytes, and the frames to send in front of their buffer.
-module _ (alias lengths : ℕ) (spaces flash memory registers pool places : LentBytes) (tick header : ℕ)
-    (payload reply frames result : LentBytes) where
+module _ (alias lengths : ℕ) (spaces flash : GivenBytes) (memory registers pool places : LentBytes)
+    (tick header : ℕ) (payload : GivenBytes) (reply frames result : LentBytes) where
   abbrev frame_leaves : FrameResult CallError Contents Result
   frame_leaves = lent_frame_call alias lengths spaces flash memory registers pool places tick header payload reply
 

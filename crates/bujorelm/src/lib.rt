@@ -1,6 +1,8 @@
 // The edge to C: what a CAN driver calls. Everything is lent: a slice is a pointer and then a length, an array of a
 // fixed length is a pointer. What comes of a call is numbers in bytes that are lent too: nothing goes over by value but
 // numbers of at most 64 bits.
+#![tactic(auto)]
+
 ghost use Rattle.std.specs.Prelude.{◌≡◌, List, ℕ};
 ghost use Rattle.tx_cut_spec.specs.Cutting.{cut_frames, RefusedBy};
 ghost use Rattle.tx_transport.specs.Transport.{received_ok, rejected_with};

@@ -1,6 +1,8 @@
 // The edge of the tool's half to C: a command written for each request, the readers of what a board answers, the frames
 // of its replies joined, and masks and data that are put together or made of two images. Everything is lent: a slice is
 // a pointer and then a length, an array of a fixed length is a pointer.
+#![tactic(auto)]
+
 ghost use Rattle.std.specs.Prelude.{◌≡◌, true, ◌%◌, eqb, length};
 ghost use Rattle.can_frame.specs.Frame.{can_frame, source_of, role_of};
 ghost use Rattle.cmd_fields.specs.Commands.{read, write, write_masked, options, information, reserve, update_complete, pairs_of};

@@ -1,4 +1,6 @@
 // The errors of a call: B11 to B14 and B2 to B5 in the board description, B6 in the reply buffer.
+#![tactic(auto)]
+
 mod checks;
 
 ghost use Rattle.std.specs.Prelude.{◌≡◌};

@@ -1,5 +1,7 @@
 // The errors that a caller can make, with the papers' numbers and positions. In specs/ stands where each is given, and
 // what holds of them; `call_limits` and `call_check` find them.
+#![tactic(auto)]
+
 ghost use Rattle.std.specs.Prelude.{◌≡◌};
 ghost use Rattle.call_error.specs.CallErrors.{passes, refusal_of};
 

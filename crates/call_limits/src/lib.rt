@@ -1,5 +1,7 @@
 // The errors of a description by numbers alone: B11 to B14 by the sizes of a board and its alias, B2 to B4 of one
 // space.
+#![tactic(auto)]
+
 ghost use Rattle.std.specs.Prelude.{ℕ, ◌≡◌};
 ghost use Rattle.call_error.specs.CallErrors.{passes, limits_check, window_check};
 

@@ -1,4 +1,6 @@
 // The CAN frame and its 29-bit header: what a frame is to the board, and from whom it came.
+#![tactic(auto)]
+
 ghost use Rattle.std.specs.Prelude.{◌≡◌, ◌≤◌};
 ghost use Rattle.can_frame.specs.Frame.{source_of, kind_of_frame, role_of};
 

@@ -1,4 +1,6 @@
 // Frames in lent bytes, 16 for each.
+#![tactic(auto)]
+
 ghost use Rattle.std.specs.Prelude.{◌≡◌, ◌++◌, ◌-◌, ◌≤◌, length, take, drop, replicate};
 ghost use Rattle.buffer.specs.Buffer.{placed};
 ghost use Rattle.buffer.specs.LittleEndian.{least_first};

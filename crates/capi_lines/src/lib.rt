@@ -1,4 +1,6 @@
 // GridConnect lines for a caller in C: what is read and what is carried lie in lent bytes.
+#![tactic(auto)]
+
 ghost use Rattle.std.specs.Prelude.{◌≡◌, [], ◌∷◌, ◌++◌, length, take, drop};
 ghost use Rattle.buffer.specs.LittleEndian.{bool_byte};
 ghost use Rattle.can_frame_bytes.specs.Layout.{frame_in_bytes};

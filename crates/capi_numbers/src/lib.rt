@@ -1,4 +1,6 @@
 // The numbers of a call's result, and the bytes that hold them.
+#![tactic(auto)]
+
 ghost use Rattle.std.specs.Prelude.{◌≡◌, min};
 ghost use Rattle.capi_numbers.specs.Numbers.{kind_written, kind_replied, refusal_numbers, numbers, in_bytes, result_bytes};
 

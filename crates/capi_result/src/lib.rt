@@ -1,4 +1,6 @@
 // What comes of a call as numbers in the result that a caller in C lends.
+#![tactic(auto)]
+
 ghost use Rattle.std.specs.Prelude.{◌≡◌};
 ghost use Rattle.capi_numbers.specs.Numbers.{in_bytes, result_bytes};
 ghost use Rattle.node_spec.specs.TickCall.{tick_answer};

@@ -1,4 +1,6 @@
 // A datagram read as a request, apart from any board.
+#![tactic(auto)]
+
 ghost use Rattle.std.specs.Prelude.{◌≡◌, get_or};
 ghost use Rattle.cmd_fields.specs.Commands.{kind_of_command};
 ghost use Rattle.cmd_decode.specs.Decoding.{decode, reading_of, decode_kind, decode_read, decode_write, decode_masked, of_fixed_length};

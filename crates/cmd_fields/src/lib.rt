@@ -1,4 +1,6 @@
 // The fields of a datagram, each read from the datagram itself.
+#![tactic(auto)]
+
 ghost use Rattle.std.specs.Prelude.{◌≡◌, ◌≤◌, get_or, drop};
 ghost use Rattle.cmd_fields.specs.Commands.{kind_of_command, form_of, form_bits, with_form, form_in, head_length, address_of, space_of};
 

@@ -1,4 +1,6 @@
 // The limits of a request's count and lengths, by numbers alone.
+#![tactic(auto)]
+
 ghost use Rattle.std.specs.Prelude.{◌≡◌};
 ghost use Rattle.cmd_limits.specs.Limits.{count_in, count_fits, bytes_fit, pairs_fit};
 

@@ -1,5 +1,7 @@
 // A view of a datagram: the bytes as they were lent, and what is read of them once, the command and the address. Each
 // function here is thin, since its proof goes by hand: it takes the view apart and leaves the reading to `cmd_fields`.
+#![tactic(auto)]
+
 ghost use Rattle.std.specs.Prelude.{◌≡◌, get_or, drop};
 ghost use Rattle.cmd_fields.specs.Commands.{form_of, form_in, head_length, address_of, space_of, rest_of};
 

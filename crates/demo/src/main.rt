@@ -1,6 +1,8 @@
 // The demonstration program of document 01: reads GridConnect lines from standard input to its end, and prints what the
 // demonstration board answers to each. What it prints is the library's (crate `gridconnect_session`): this program only
 // reads and writes.
+#![tactic(auto)]
+
 use exec_registers::Registers;
 use gridconnect_input::Carry;
 

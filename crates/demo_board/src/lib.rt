@@ -1,4 +1,6 @@
 // The demonstration board of document 01.
+#![tactic(auto)]
+
 ghost use Rattle.std.specs.Prelude.{◌≡◌};
 ghost use Rattle.space_table.specs.Table.{spaces_in};
 ghost use Rattle.demo_board.specs.Board.{demo_alias, demo_write_lengths, demo_spaces, demo_flash, demo_memory, row_of};

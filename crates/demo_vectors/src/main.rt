@@ -4,6 +4,8 @@
 // described from there on, `@L` that the lock is held before each datagram, and `@U` that it is free. A line that
 // starts with `!` is a board, and is answered by the error that refuses it: the alias in two bytes, the sizes of
 // memory and flash in three each, that of the reply buffer in one, and the table of spaces.
+#![tactic(auto)]
+
 mod boards;
 mod output;
 

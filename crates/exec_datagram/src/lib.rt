@@ -1,4 +1,6 @@
 // A datagram handled whole: decoded, and what it asks for performed.
+#![tactic(auto)]
+
 ghost use Rattle.exec_spec.specs.Performing.{AllAnnounced, AllLeave};
 ghost use Rattle.exec_spec.specs.Handling.{handle, Performs, HandleBounds};
 ghost use Rattle.exec_spec.specs.LentBoard.{board_of, contents_before, contents_after};

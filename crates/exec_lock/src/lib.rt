@@ -1,5 +1,7 @@
 // The lock memory: six bytes, zero where nobody holds it. They come in and go out by value; `change` stores what a
 // test-and-set gives in a lock that is lent.
+#![tactic(auto)]
+
 ghost use Rattle.std.specs.Prelude.{◌≡◌};
 ghost use Rattle.exec_lock.specs.Lock.{all_zero, lock_after, test_and_set};
 

@@ -1,5 +1,7 @@
 // What a datagram may change besides memory, in one lent block: the lock memory. How its fields lie in the bytes is
 // said by specs/Registers.antt alone.
+#![tactic(auto)]
+
 ghost use Rattle.std.specs.Prelude.{◌≡◌, length};
 ghost use Rattle.buffer.specs.Buffer.{put_at};
 ghost use Rattle.exec_registers.specs.Registers.{registers_in, registers_at_start, with_lock, BytesTold};

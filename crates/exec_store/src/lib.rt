@@ -1,4 +1,6 @@
 // What a masked write stores: bytes of which a mask chooses the bits.
+#![tactic(auto)]
+
 ghost use Rattle.std.specs.Prelude.{◌≡◌};
 ghost use Rattle.cmd_fields.specs.Commands.{pair, pairs_of};
 ghost use Rattle.exec_store.specs.Storing.{mask_byte, store_masked};

@@ -1,4 +1,6 @@
 // Frames that lie in lent bytes, printed as lines, and the room that an answer takes as text.
+#![tactic(auto)]
+
 ghost use Rattle.std.specs.Prelude.{◌≡◌, ◌+◌, ◌*◌, ◌≤◌, ◌<◌, min, length, get_or};
 ghost use Rattle.buffer.specs.Buffer.{put_at};
 ghost use Rattle.buffer.specs.BigEndian.{number_of};

@@ -1,4 +1,6 @@
 // An input in chunks cut into lines.
+#![tactic(auto)]
+
 ghost use Rattle.std.specs.Prelude.{◌≡◌, ◌++◌};
 ghost use Rattle.gridconnect_parse.specs.Parsing.{parse_of};
 ghost use Rattle.gridconnect_input.specs.Input.{begun_of, next_of, last_of, LineStep, InputEnds, AnyCuts};

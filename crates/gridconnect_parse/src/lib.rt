@@ -1,4 +1,6 @@
 // GridConnect read: the form of a line, and the frame that it stands for.
+#![tactic(auto)]
+
 ghost use Rattle.std.specs.Prelude.{◌≡◌};
 ghost use Rattle.gridconnect_parse.specs.Parsing.{parse_of, bad, ReadBack};
 ghost use Rattle.gridconnect_parse.specs.Form.{formed};

@@ -1,4 +1,6 @@
 // GridConnect: a frame printed as a line of text.
+#![tactic(auto)]
+
 ghost use Rattle.std.specs.Prelude.{◌≡◌, ◌+◌, ◌*◌, ◌≤◌, ◌<◌, [], ◌∷◌, ◌++◌, leb, length};
 ghost use Rattle.buffer.specs.Buffer.{placed};
 ghost use Rattle.hex_print.specs.Digits.{hex_digits};

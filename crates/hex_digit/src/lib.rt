@@ -1,5 +1,7 @@
 // One hexadecimal digit, 0 to 9 and A to F: its value, and the two digits of a byte. A digit is computed by shifts,
 // masks, sums and differences within 32 bits: there is no product and no quotient on its way.
+#![tactic(auto)]
+
 ghost use Rattle.std.specs.Prelude.{◌≡◌, ◌+◌, ◌*◌, ◌/◌, ◌%◌};
 ghost use Rattle.hex_digit.specs.Digit.{digit_value, digit_of};
 

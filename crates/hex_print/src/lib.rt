@@ -1,5 +1,7 @@
 // A number of 32 bits as eight hexadecimal digits, and bytes as pairs of them, put into text. The digits are those of
 // `hex_digit`: there is no product and no quotient on their way.
+#![tactic(auto)]
+
 ghost use Rattle.std.specs.Prelude.{◌≡◌, ◌+◌, ◌-◌, ◌*◌, ◌/◌, ◌≤◌, ◌<◌, cond, length, take, drop};
 ghost use Rattle.buffer.specs.Buffer.{put_at, placed};
 ghost use Rattle.hex_print.specs.Digits.{digits_of, hex_digits, PlaceValue};

@@ -1,5 +1,7 @@
 // Hexadecimal digits read from text: pairs of them as bytes, and eight as a number of 32 bits. There is no product and
 // no quotient on the way of a digit.
+#![tactic(auto)]
+
 ghost use Rattle.std.specs.Prelude.{◌≡◌, ◌+◌, ◌*◌, ◌%◌};
 ghost use Rattle.hex_read.specs.Reading.{read_of, no_hex_bytes, BytesBack, BytesAgain, read_number, NumberBack, NumberAgain};
 

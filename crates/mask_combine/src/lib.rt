@@ -1,5 +1,7 @@
 // Two pairs of a mask and a data byte put together, the later winning bit by bit (C-16). In specs/ stands what holds of
 // such pairs, one for each byte of memory.
+#![tactic(auto)]
+
 ghost use Rattle.std.specs.Prelude.{◌≡◌};
 ghost use Rattle.cmd_fields.specs.Commands.{pair};
 ghost use Rattle.mask_combine.specs.Combining.{zero_outside, put_together, pair_in, mask_and_data, PairsAddUp};

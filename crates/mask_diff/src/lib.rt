@@ -1,5 +1,7 @@
 // The masked writes that take an old image of memory to a new one (C-16): each touches only bits that differ, so that a
 // tool undoes nothing that another tool has set in the same byte.
+#![tactic(auto)]
+
 ghost use Rattle.std.specs.Prelude.{◌≡◌, true, false, ◌≤◌, ◌*◌, length, take};
 ghost use Rattle.buffer.specs.Buffer.{over};
 ghost use Rattle.tool_write_spec.specs.Writing.{pair_bytes};

@@ -1,4 +1,6 @@
 // A frame from its arrival on the bus to the frames that answer it.
+#![tactic(auto)]
+
 ghost use Rattle.exec_spec.specs.LentBoard.{board_of};
 ghost use Rattle.node_send.specs.Sending.{BusEnds, BusOrder};
 

@@ -1,5 +1,7 @@
 // The three calls of a driver, from the caller to the answer and to what is left: a frame, a whole datagram, and a lone
 // tick.
+#![tactic(auto)]
+
 ghost use Rattle.std.specs.Prelude.{◌≡◌};
 ghost use Rattle.exec_spec.specs.Handling.{Fixed, Contents};
 ghost use Rattle.exec_spec.specs.LentBoard.{board_of};

@@ -2,7 +2,7 @@
 -- datagram's frames"; and demand 3 of frames in and frames out.
 use Rattle.std.specs.Prelude.{ℕ, ◌≤◌, ◌≡◌, List, [], ◌∷◌, ◌++◌, map, length, take}
 use Rattle.buffer.specs.Buffer.{over}
-use Rattle.buffer.specs.Lent.{LentBytes, before, after}
+use Rattle.buffer.specs.Lent.{LentBytes, GivenBytes, before, after}
 use Rattle.call_error.specs.declared.CallError.{CallError}
 use Rattle.can_frame.specs.declared.Frame.{Frame}
 use Rattle.can_frame.specs.Frame.{source_of}
@@ -103,8 +103,8 @@ BusOrder x =
 -- ---- what the code gives back
 
 -- Everything that the caller finds after a frame is handled and answered, of what it lent and handed in.
-module _ (alias lengths : ℕ) (spaces flash memory registers pool places : LentBytes) (tick header : ℕ)
-    (payload reply frames : LentBytes) where
+module _ (alias lengths : ℕ) (spaces flash : GivenBytes) (memory registers pool places : LentBytes)
+    (tick header : ℕ) (payload : GivenBytes) (reply frames : LentBytes) where
   -- The frames to send to the frame's source.
   abbrev pub lent_frames_sent : List Frame
   lent_frames_sent =

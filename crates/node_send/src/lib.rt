@@ -1,4 +1,6 @@
 // What the board sends: the frames of an answer.
+#![tactic(auto)]
+
 ghost use Rattle.node_send.specs.Sending.{answer_frames, frames_to_send, Made};
 
 use node_spec::FrameAnswer;

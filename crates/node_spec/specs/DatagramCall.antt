@@ -1,7 +1,7 @@
 -- The call for a whole datagram: document 01, "Refused because of the input", and what is lent as the caller finds it
 -- afterwards.
 use Rattle.std.specs.Prelude.{ℕ, List, ◌≡◌}
-use Rattle.buffer.specs.Lent.{LentBytes, before, after}
+use Rattle.buffer.specs.Lent.{LentBytes, GivenBytes, before, after, given}
 use Rattle.call_error.specs.CallErrors.{unless_failed}
 use Rattle.call_error.specs.declared.CallError.{CallError}
 use Rattle.reply_answer.specs.Answers.{answer_of, buffer_of, SmallAnswer}
@@ -49,10 +49,11 @@ HandledChanges (Refused error) old new = new ≡ old
 HandledChanges (Answered a) old new = Changes a old new
 
 -- Everything that the caller finds after the call for a whole datagram, of what it lent and handed in.
-module _ (alias lengths : ℕ) (spaces flash memory registers datagram reply : LentBytes) where
+module _ (alias lengths : ℕ) (spaces flash : GivenBytes) (memory registers : LentBytes) (datagram : GivenBytes)
+    (reply : LentBytes) where
   abbrev pub lent_datagram_call : Final
   lent_datagram_call =
-      datagram_call (board_of alias lengths spaces flash) (contents_before memory registers) (before datagram)
+      datagram_call (board_of alias lengths spaces flash) (contents_before memory registers) (given datagram)
       (before reply)
 
   pub record DatagramEnds (r : Handled) : Type 0 where

@@ -1,6 +1,6 @@
 -- The frame call: the caller's errors at every call, joining, and a finished datagram handled whole.
 use Rattle.std.specs.Prelude.{ℕ, List, ◌≡◌}
-use Rattle.buffer.specs.Lent.{LentBytes, before, after}
+use Rattle.buffer.specs.Lent.{LentBytes, GivenBytes, before, after, given}
 use Rattle.call_error.specs.CallErrors.{unless_failed}
 use Rattle.call_error.specs.declared.CallError.{CallError}
 use Rattle.can_frame.specs.Frame.{CanFrame, can_frame}
@@ -103,12 +103,12 @@ pub record Keeps (x : FrameResult CallError Contents Result) (before after bytes
   pub pool : bytes ≡ x.state.pool
 
 -- Everything that the caller finds after the frame call, of what it lent and handed in.
-module _ (alias lengths : ℕ) (spaces flash memory registers pool places : LentBytes) (tick header : ℕ)
-    (payload reply : LentBytes) where
+module _ (alias lengths : ℕ) (spaces flash : GivenBytes) (memory registers pool places : LentBytes)
+    (tick header : ℕ) (payload : GivenBytes) (reply : LentBytes) where
   abbrev pub lent_frame_call : FrameResult CallError Contents Result
   lent_frame_call =
       frame_call (board_of alias lengths spaces flash) (before reply) tick (state_before places pool)
-      (contents_before memory registers) (can_frame header (before payload))
+      (contents_before memory registers) (can_frame header (given payload))
 
   pub record FrameEnds (r : FrameAnswer) : Type 0 where
     pub answers : Answers lent_frame_call r (before reply) (after reply) (contents_after memory registers)

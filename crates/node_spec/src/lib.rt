@@ -1,5 +1,7 @@
 // The calls of a driver, for a whole datagram, for a frame and for a lone tick: what comes of each. The calls
 // themselves and demand 3 are definitions, in specs/, with their theorem; the code that meets them is in `node_call`.
+#![tactic(auto)]
+
 use call_error::CallError;
 use reply_answer::Answer;
 

@@ -1,5 +1,7 @@
 // The answer to a datagram, and a reply in the lent buffer: the whole reply, or nothing where the buffer has no room
 // for it.
+#![tactic(auto)]
+
 ghost use Rattle.reply_answer.specs.Answers.{received_ok_reply, Agrees};
 
 // The answer to a datagram: Rejected with a code; Received OK 0x00 to a write, which changed so many bytes of memory

@@ -1,4 +1,6 @@
 // The reply datagrams, written into the lent buffer: the whole reply, or nothing where the buffer has no room for it.
+#![tactic(auto)]
+
 ghost use Rattle.std.specs.Prelude.{◌≡◌, ◌≤◌, length};
 ghost use Rattle.reply_datagram.specs.Replies.{read_reply, failed_read, failed_write, lock_reply, Sends};
 ghost use Rattle.space_table.specs.Table.{spaces_in};

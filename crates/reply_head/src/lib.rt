@@ -1,5 +1,7 @@
 // A datagram that begins with a command, an address and perhaps a space byte. Its first bytes are stored straight into
 // the lent buffer.
+#![tactic(auto)]
+
 ghost use Rattle.std.specs.Prelude.{◌≡◌, ◌∷◌, ◌++◌, ◌+◌, ◌≤◌, length};
 ghost use Rattle.buffer.specs.Buffer.{over, placed};
 ghost use Rattle.buffer.specs.BigEndian.{bytes_of};

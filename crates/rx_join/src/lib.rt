@@ -1,4 +1,6 @@
 // Frames joined into datagrams, or swallowed behind one that was refused.
+#![tactic(auto)]
+
 ghost use Rattle.std.specs.Prelude.{length};
 ghost use Rattle.call_error.specs.CallErrors.{or_else};
 ghost use Rattle.can_frame.specs.Frame.{can_frame, source_of, role_of};

@@ -1,5 +1,7 @@
 // What comes of joining a frame: what the code gives back, as definitions in specs/, with what is owed for each
 // outcome; the code is in `rx_join`.
+#![tactic(auto)]
+
 use call_error::CallError;
 
 // What comes of a call for a frame: an error of the caller, or what the frame brings about. A finished datagram is the

@@ -1,6 +1,8 @@
 // One of the eight places of the reception state in their 64 lent bytes: what it holds, and the place changed: held for
 // a source, kept for one that is being swallowed, or freed. A place that is not there reads as free, and changing it
 // changes nothing.
+#![tactic(auto)]
+
 ghost use Rattle.std.specs.Prelude.{◌≡◌, cond, ◌+◌, ◌*◌, ◌<◌, ltb, get_or};
 ghost use Rattle.rx_place_spec.specs.Place.{free_place, place, held_for, swallowing_for};
 ghost use Rattle.rx_spec.specs.Reception.{is_for};

@@ -1,4 +1,6 @@
 // B7 of one place of the reception state, beside the places before it.
+#![tactic(auto)]
+
 ghost use Rattle.std.specs.Prelude.{◌≡◌, not, ◌&&◌, ◌||◌, ◌≤◌, leb, take, get_or};
 ghost use Rattle.rx_place_spec.specs.Place.{free_place};
 ghost use Rattle.rx_spec.specs.Reception.{sound_beside, has_place};

@@ -1,4 +1,6 @@
 // The eight places of the reception state looked through: for a source, with B7 and what is due, and for a free place.
+#![tactic(auto)]
+
 ghost use Rattle.std.specs.Prelude.{◌≡◌, true, false, ◌||◌, ◌⊎◌, ℕ, take, get_or};
 ghost use Rattle.std.specs.Int.Bits.{bit_or};
 ghost use Rattle.rx_place_spec.specs.Place.{free_place};

@@ -1,6 +1,8 @@
 // The reception state: eight places, of eight lent bytes each; the bytes of the unfinished datagrams lie in a lent
 // pool, 72 for each place. Its rules, the books and the order statement are in specs/, and hold of the definitions
 // alone.
+#![tactic(auto)]
+
 ghost use Rattle.std.specs.Prelude.{◌≡◌, List, length, ℕ};
 ghost use Rattle.rx_spec.specs.Books.{blank};
 ghost use Rattle.rx_place_spec.specs.State.{empty_places};

@@ -1,4 +1,6 @@
 // The rules of joining: what a frame does to the datagram of its source. They know no place and no byte, only numbers.
+#![tactic(auto)]
+
 ghost use Rattle.std.specs.Prelude.{◌≡◌, ◌+◌, leb};
 ghost use Rattle.rx_step.specs.Step.{step_of, step_new, step_more, step_swallowed};
 

@@ -1,5 +1,7 @@
 // The places that are due to be freed: those whose source's last accepted frame is more than 3,000 ticks back, whether
 // they hold its unfinished datagram or it is being swallowed.
+#![tactic(auto)]
+
 ghost use Rattle.std.specs.Prelude.{◌≡◌, ◌*◌, cond, slice_index_or};
 ghost use Rattle.buffer.specs.Buffer.{placed};
 ghost use Rattle.rx_place_spec.specs.Place.{free_place};

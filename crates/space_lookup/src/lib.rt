@@ -1,4 +1,6 @@
 // The spaces of the board description: the lookup of a space by its number, and its window.
+#![tactic(auto)]
+
 ghost use Rattle.std.specs.Prelude.{◌≡◌, ◌≤◌};
 ghost use Rattle.space_table.specs.Table.{spaces_in};
 ghost use Rattle.space_lookup.specs.Description.{size_of, left_out, find_space, window_of, lowest_number};

@@ -1,4 +1,6 @@
 // What a read or a write reaches: a described space, or the code with which it fails.
+#![tactic(auto)]
+
 ghost use Rattle.std.specs.Prelude.{◌≡◌};
 ghost use Rattle.space_lookup.specs.Description.{find_space};
 ghost use Rattle.space_table.specs.Table.{spaces_in};

@@ -1,4 +1,6 @@
 // The table of spaces that the board lends, sixteen bytes for each space.
+#![tactic(auto)]
+
 ghost use Rattle.std.specs.Prelude.{◌≡◌, ◌+◌, ◌*◌, ◌≤◌, length};
 ghost use Rattle.space_table.specs.Table.{number_at, row_at, space_at, spaces_in};
 

@@ -1,4 +1,6 @@
 // The tool's reader of reply datagrams: every field of a reply, or none, which is W3.
+#![tactic(auto)]
+
 ghost use Rattle.std.specs.Prelude.{◌≡◌, get_or};
 ghost use Rattle.tool_read_spec.specs.Finding.{kind_of_reply, find_kind, find_reply, Readings};
 

@@ -1,4 +1,6 @@
 // The tool's readers of Received OK and Rejected: every field of their contents, or none, which is W3.
+#![tactic(auto)]
+
 ghost use Rattle.std.specs.Prelude.{◌≡◌, ◌≤◌, length};
 ghost use Rattle.tool_read_ack.specs.Receipt.{byte_in, read_received, code_length, read_rejection};
 

@@ -1,5 +1,7 @@
 // What a reader finds in a reply datagram: numbers, and where bytes stand in it; and the kind of a reply by its
 // command.
+#![tactic(auto)]
+
 ghost use Rattle.std.specs.Prelude.{◌≡◌, ◌+◌, ◌*◌};
 ghost use Rattle.tool_read_spec.specs.Finding.{kind_of_reply, text_from};
 

@@ -1,4 +1,6 @@
 // What the tool's writer and readers give, put into lent bytes for a caller in C.
+#![tactic(auto)]
+
 ghost use Rattle.std.specs.Prelude.{◌≡◌};
 ghost use Rattle.tool_result_spec.specs.Layout.{composed_bytes, acknowledged_bytes, rejection_bytes, reply_fields_bytes};
 ghost use Rattle.tool_result_spec.specs.Numbers.{composed_of, acknowledged_of, rejection_of, fields_of_reply, ToldApart};

@@ -1,6 +1,8 @@
 // What the tool's writer and readers give, as numbers for a caller in C: the structs, and in specs/ the number of each
 // case and that no blank stands for something. A number that a case does not name is 0, and what may be missing says
 // whether it is given. The code is in `tool_result`.
+#![tactic(auto)]
+
 
 // A command that was written: the number of W1 or W2 and no length, or 0 and the command's length.
 #[repr(C)]

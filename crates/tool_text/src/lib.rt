@@ -1,4 +1,6 @@
 // Texts in a datagram: characters, and behind them the only zero byte.
+#![tactic(auto)]
+
 ghost use Rattle.std.specs.Prelude.{◌≡◌, drop};
 ghost use Rattle.tool_read_spec.specs.Finding.{first_zero, is_text};
 

@@ -1,5 +1,7 @@
 // The tool's writer: a function for each request of document 01, which writes the request's one form into a lent
 // buffer.
+#![tactic(auto)]
+
 ghost use Rattle.std.specs.Prelude.{◌≡◌, true, ◌++◌, ◌≤◌, ◌%◌, eqb, length};
 ghost use Rattle.buffer.specs.Buffer.{over};
 ghost use Rattle.cmd_fields.specs.Commands.{read, write, write_masked, options, information, reserve, update_complete, pairs_of};

@@ -1,4 +1,6 @@
 // What comes of writing a request, and how the writer names a space.
+#![tactic(auto)]
+
 ghost use Rattle.std.specs.Prelude.{◌≡◌};
 ghost use Rattle.tool_write_spec.specs.Writing.{form_for};
 

@@ -1,5 +1,7 @@
 // A datagram cut into frames. Each frame is written straight into lent bytes, 16 for each, with room for the ten frames
 // that an answer has at most.
+#![tactic(auto)]
+
 ghost use Rattle.std.specs.Prelude.{◌≡◌, ◌+◌, ◌*◌, ◌≤◌, length};
 ghost use Rattle.buffer.specs.Buffer.{over, put_at};
 ghost use Rattle.can_frame_bytes.specs.Layout.{frames_bytes};

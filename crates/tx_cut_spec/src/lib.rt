@@ -1,5 +1,7 @@
 // Which datagrams are cut, by numbers alone. The frames that a datagram is cut into, and that joining them gives it
 // back, are in specs/ and hold of the definitions alone.
+#![tactic(auto)]
+
 ghost use Rattle.std.specs.Prelude.{◌≡◌, ◌&&◌, leb};
 ghost use Rattle.tx_cut_spec.specs.Cutting.{aliases};
 

@@ -1,5 +1,7 @@
 // The frames of the transport replies Received OK and Rejected, and of a reply, by itself or behind Received OK. They
 // are put into lent bytes, 16 for each, with room for the ten frames that an answer has at most.
+#![tactic(auto)]
+
 ghost use Rattle.std.specs.Prelude.{◌≡◌, ◌++◌, ◌+◌, ◌≤◌, ◌<◌, length};
 ghost use Rattle.buffer.specs.Buffer.{over};
 ghost use Rattle.can_frame.specs.Frame.{frame_of};
