@@ -32,6 +32,7 @@ pub fn source_of(header: u32) -> u16
 }
 
 // The kind by the top five bits of a header of 29 bits.
+#[tactic(auto, unfolding(crate::specs::Frame::kind_of_frame))]
 fn kind_of(top: u32) -> Role
     ensures { result ≡ kind_of_frame top }
 {
@@ -45,6 +46,7 @@ fn kind_of(top: u32) -> Role
 }
 
 // What a frame with `size` bytes of data is to the board with that alias.
+#[tactic(auto, unfolding(crate::specs::Frame::role_of, crate::specs::Frame::addressed))]
 pub fn role_of(alias: u16, header: u32, size: usize) -> Role
     ensures { result ≡ role_of alias header size }
 {
