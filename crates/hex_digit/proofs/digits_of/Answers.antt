@@ -1,10 +1,9 @@
 -- `digits_of` meets its contract: both digits as sums.
 -- Assumes nothing.
-use Rattle.std.proofs.Common.{◌≡◌, ℕ, ◌+◌, ◌-◌, ◌*◌, ◌/◌, ◌%◌, ◌<◌, arith, rules}
+use Rattle.std.proofs.Common.{◌≡◌, ℕ, ◌+◌, ◌-◌, ◌*◌, ◌/◌, ◌%◌, ◌<◌, arith}
 use lib.Bits.{bit_and, and_mask}
 use Rattle.hex_digit.proofs.DigitLaws.{digit_sum, letters}
-use Rattle.hex_digit.proofs.digits_of.Statement.{statement}
-use Rattle.hex_digit.proofs.digits_of.Tie as tie
+use Rattle.hex_digit.proofs.digits_of.Goals as goal
 
 -- the values of the two digits, and the bit for 16 where one is a letter, as the code has them
 abbrev values_of : ℕ → ℕ
@@ -23,41 +22,13 @@ module _ (b : ℕ) (h : b < 256) where
   which : letters_of b ≡ (b / 16 + 6) / 16 * 16 + (b % 16 + 6) / 16 * 4096
   which = letters b (values_of b) h values
 
-cast-values-2 : tie.Need-overflow-cast-values-2
-cast-values-2 c = omega (arith, low c.args.b (omega arith))
-
-add-letters : tie.Need-overflow-add-letters
-add-letters c = omega (arith, values c.args.b (omega arith))
-
-add-result : tie.Need-overflow-add-result
-add-result c = omega (arith, values c.args.b (omega arith))
-
-sub-result : tie.Need-overflow-sub-result
-sub-result c = omega arith
-
-add-result-2 : tie.Need-overflow-add-result-2
-add-result-2 c = omega (arith, values c.args.b (omega arith), which c.args.b (omega arith))
-
 -- 8 less 1 for each letter
 seven : (letters p q : ℕ) → letters ≡ p * 16 + q * 4096 → p < 2 → q < 2 → letters / 2 - letters / 16 ≡ p * 7 + q * 1792
 seven letters p q e h k = omega arith
 
-returns : tie.Need-returns
+pub returns : goal.returns
 returns c =
     let b = c.args.b in
     let h : b < 256 = omega arith in
     let further = seven (letters_of b) ((b / 16 + 6) / 16) ((b % 16 + 6) / 16) (which b h) (omega arith) (omega arith) in
     omega (arith, values b h, digit_sum (b / 16) (omega arith), digit_sum (b % 16) (omega arith))
-
-pub digits_of_spec : {M : Type 1} → statement M
-digits_of_spec =
-    tie.close
-    (tie.spec
-    (λ c. search rules)
-    cast-values-2
-    (λ c. search rules)
-    add-letters
-    add-result
-    sub-result
-    add-result-2
-    returns)
