@@ -8,7 +8,7 @@ ghost use Rattle.call_error.specs.CallErrors.{passes, refusal_of};
 // An error that the caller made, returned and never sent, under the number that the papers give it: document 01 calls
 // these the house numbers. They stand here in the order in which they are tested. Those of a space bring its position
 // in the description, counted from 0.
-#[derive(Drop)]
+#[derive(Clone, Copy)]
 pub enum CallError {
     B11TooManySpaces,
     B12MemoryTooLarge,
@@ -23,14 +23,14 @@ pub enum CallError {
 }
 
 // What a check finds: no error, or the first that applies.
-#[derive(Drop)]
+#[derive(Clone, Copy)]
 pub enum Checked {
     Passed,
     Failed(CallError),
 }
 
 // The position of a space in the description, counted from 0, or that there is none: a blank is not a zero.
-#[derive(Drop)]
+#[derive(Clone, Copy)]
 pub enum Position {
     Nowhere,
     At(u8),

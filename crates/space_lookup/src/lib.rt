@@ -8,7 +8,7 @@ ghost use Rattle.space_lookup.specs.Description.{size_of, left_out, find_space, 
 use space_table::Space;
 
 // What is known of a space's number. `Empty` says whether the empty space is read-only.
-#[derive(Drop)]
+#[derive(Clone, Copy)]
 pub enum Found {
     Described(Space),
     Empty(bool),

@@ -7,7 +7,7 @@ ghost use Rattle.space_table.specs.Table.{number_at, row_at, space_at, spaces_in
 // One address space. Both its lowest and its highest address are in it. It lies in flash or in working memory, from
 // `offset` on.
 #[repr(C)]
-#[derive(Drop)]
+#[derive(Clone, Copy)]
 pub struct Space {
     pub number: u8,
     pub read_only: bool,
