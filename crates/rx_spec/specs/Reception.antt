@@ -1,6 +1,6 @@
 -- Document 01, "Joining frames", 0x2040, 0x2000 and 0x2020 of "Refused because of the state", and B7, with C-14 and
 -- C-15 of document 02: the reception state, what a tick drops, and a frame joined to it or swallowed.
-use Rattle.std.specs.Prelude.{ℕ, suc, ◌+◌, ◌*◌, Bool, true, false, cond, not, ◌&&◌, ◌||◌, List, [], ◌∷◌, ◌++◌, leb, eqb, length, take, drop, get_or, set, replicate}
+use Rattle.std.specs.Prelude.{ℕ, suc, ◌+◌, ◌*◌, Bool, true, false, cond, not, ◌&&◌, ◌||◌, List, [], ◌∷◌, ◌++◌, leb, eqb, length, take, drop, get_or, set}
 use Rattle.buffer.specs.Buffer.{put_at}
 use Rattle.can_frame.specs.declared.Role.{Role}
 use Rattle.can_frame.specs.declared.Role.TheVariants.{Ignored, Single, First, Middle, Last}
