@@ -5,7 +5,7 @@ ghost use Rattle.std.specs.Prelude.{◌≡◌, ◌≤◌, get_or, drop};
 ghost use Rattle.cmd_fields.specs.Commands.{kind_of_command, form_of, form_bits, with_form, form_in, head_length, address_of, space_of};
 
 // Where a command names its space: nowhere, in byte 6, or by the low two bits 1, 2, 3 of byte 1.
-#[derive(Drop)]
+#[derive(Clone, Copy)]
 pub enum Form {
     NoSpace,
     Byte6,
@@ -15,7 +15,7 @@ pub enum Form {
 }
 
 // The kinds of commands, by byte 1.
-#[derive(Drop)]
+#[derive(Clone, Copy)]
 pub enum Kind {
     Read,
     Write,
