@@ -2,4 +2,3 @@
 // whatever others send. These are definitions, in specs/, and their theorems, which `rx_join::join` and the board's own
 // calls promise.
 #![tactic(auto)]
-
