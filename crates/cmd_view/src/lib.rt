@@ -1,11 +1,11 @@
 // A view of a datagram: the bytes as they were lent, and what is read of them once, the command and the address. Each
-// function here is thin, since its proof goes by hand: it takes the view apart and leaves the reading to `cmd_fields`.
+// function here is thin: it takes the view apart and leaves the reading to `cmd_fields`.
 #![tactic(auto)]
 
 ghost use Rattle.std.specs.Prelude.{◌≡◌, get_or, drop};
 ghost use Rattle.cmd_fields.specs.Commands.{form_of, form_in, head_length, address_of, space_of, rest_of};
 
-#[derive(Drop)]
+#[derive(Clone, Copy)]
 struct View<'a> {
     pub datagram: &'a [u8],
     pub command: u8,
@@ -46,7 +46,7 @@ pub struct Target {
     pub address: u32,
 }
 
-// Both, read through the view. Its proof goes by hand, as that of `rest`: a local holds a view.
+// Both, read through the view.
 pub fn target_of(datagram: &[u8]) -> Target
     ensures { (result.space ≡ space_of (form_in datagram.now) datagram.now)
         × (result.address ≡ address_of datagram.now) }
