@@ -6,7 +6,7 @@ ghost use Rattle.std.specs.Prelude.{◌≡◌};
 ghost use Rattle.exec_lock.specs.Lock.{all_zero, lock_after, test_and_set};
 
 // The lock memory: the ID that holds the lock, zero where none does.
-#[derive(Drop)]
+#[derive(Clone, Copy)]
 struct Lock {
     bytes: [u8; 6],
 }
