@@ -118,6 +118,7 @@ fn step_swallowed(role: Role) -> Step
 
 // What a frame does: its role and the number of its data bytes, whether its source is unfinished, whether it is being
 // swallowed then, and of how many bytes its datagram is otherwise.
+#[tactic(auto, unfolding(crate::specs::Step::step_of))]
 pub fn step_of(role: Role, size: u8, unfinished: bool, swallowing: bool, len: u8) -> Step
     ensures { result ≡ step_of role size unfinished swallowing len }
 {
