@@ -1,6 +1,6 @@
 -- Laws of reading: whether all are digits is kept in one number and tested at the end, and what a caller learns of the answer.
 -- Assumes nothing.
-use Prim.Native.Nat.{ℕ, zero, suc, suc-le-suc, ◌+◌, ◌*◌, ◌%◌, ◌≤◌, ◌<◌}
+use Prim.Native.Nat.{ℕ, zero, suc, suc-le-suc, ◌+◌, ◌*◌, ◌%◌, ◌^◌, ◌≤◌, ◌<◌}
 use mathlib.Core.Path.{◌≡◌, refl, sym, ap, ◌∙◌}
 use mathlib.Core.Bool.{Bool, true, false, cond, ◌&&◌}
 use mathlib.Core.List.{List, [], ◌∷◌}
@@ -58,6 +58,10 @@ module _ (s : List ℕ) (i worst : ℕ) (p : Passed s i worst) where
   pub all-good : worst ≤ 15 → length s ≤ i → all_digits s ≡ true
   unfolding all_digits
   all-good h k = p ∙ rw (le-leb worst 15 h, drop_of_length-le s {i = i} k)
+
+-- the number of digits that stand behind others, which are `value`
+abbrev pub behind : ℕ → List ℕ → ℕ
+behind value s = value * 16 ^ length s + number_in s
 
 -- ---- the next two digits of a text
 

@@ -2,12 +2,11 @@
 -- the bytes of the whole.
 -- Assumes nothing.
 use Prim.Native.Nat.{ℕ, ◌+◌, ◌*◌, ◌-◌, ◌%◌, ◌≤◌, ◌<◌}
-use mathlib.Core.Path.{◌≡◌, refl, sym, ap, ◌∙◌}
+use mathlib.Core.Path.{◌≡◌, sym, ap, ◌∙◌}
 use mathlib.Core.Bool.{true, false}
 use mathlib.Core.List.{List, [], ◌++◌}
 use native.Mathlib.Numerals.{add-one}
 use native.Mathlib.Omega.{arith}
-use borrow.Author.Rules.{rules}
 use borrow.Author.Tests.{le-leb, lt-leb, eq-eqb, ne_eqb}
 use lib.Bits.{bit_and, bit_or, and_mask}
 use lib.ListN.{length, drop, get_or, set, replicate, drop_of_length-le}
@@ -18,8 +17,7 @@ use Rattle.hex_print.specs.Digits.{all_digits}
 use Rattle.hex_read.specs.Reading.{bytes_in, read_of, no_hex_bytes}
 use Rattle.hex_read.proofs.BackLaws.{bytes-read-back, bytes-again}
 use Rattle.hex_read.proofs.ReadLaws.{Passed, passed, small, one-bad, all-good, next_pair, pair-value, half}
-use Rattle.hex_read.proofs.read_bytes.Statement.{statement}
-use Rattle.hex_read.proofs.read_bytes.Tie as tie
+use Rattle.hex_read.proofs.read_bytes.Goals as goal
 
 -- a turn: two digits, and the byte that is stored
 module _ (s : List ℕ) (i worst x y : ℕ) (h : i + 1 < length s) (ex : x ≡ digit_value (get_or s i 0)) (ey : y ≡ digit_value (get_or s (i + 1) 0))
@@ -75,104 +73,56 @@ module _ (s : List ℕ) where
           let m : n ≡ length (bytes_in s) = omega (arith, rw none at ct) in
           simp (le-leb (length s) 16 h, eq-eqb (length s % 2) 0 even, t, b, m)
 
-abbrev invariant-loop : tie.invariant-loop
-invariant-loop text size bytes₀ worst₀ n₀ i₀ bytes worst n i =
-    (i ≡ n * 2)
-    × (i ≤ length text)
-    × Passed text i worst
-    × (all_digits text ≡ true → sets bytes n (bytes_in (drop i text)) ≡ sets (replicate 8 0) 0 (bytes_in text))
-    × (n + length (bytes_in (drop i text)) ≡ length (bytes_in text))
-
-abbrev decreases-loop : tie.decreases-loop
-decreases-loop text size bytes₀ worst₀ n₀ i₀ bytes worst n i = length text - i
-
--- the points of the code, each from the one after it: the start, the loop's head, and where the high digit is known
-abbrev start : tie.Else2 invariant-loop decreases-loop → tie.Start invariant-loop decreases-loop
-start c = c.before.before.before
-
-abbrev head : tie.After-value-of invariant-loop decreases-loop → tie.At-loop invariant-loop decreases-loop
-head c = c.before.before.before
-
-abbrev high : tie.After-value-of2 invariant-loop decreases-loop → tie.After-value-of invariant-loop decreases-loop
-high c = c.before.before
-
 -- behind the two tests of the length
-module _ (c : tie.Else2 invariant-loop decreases-loop) where
-  even : length (start c).args.text.now % 2 ≡ 0
-  even = sym (and_mask (length (start c).args.text.now) 1) ∙ c.if2.false
+even : (s : List ℕ) → bit_and (length s) 1 ≡ 0 → length s % 2 ≡ 0
+even s e = sym (and_mask (length s) 1) ∙ e
 
-returns : tie.Need-returns invariant-loop decreases-loop
-returns c = (c.no_bytes.ensures ∙ too_long _ c.before.if1.true, (bytes-read-back, bytes-again))
+pub returns-then-size-gt16 : goal.returns-then-size-gt16
+returns-then-size-gt16 c = record {
+  value = c.no_bytes.ensures ∙ too_long _ c.if-size-gt16.true;
+  read_back = bytes-read-back;
+  printed_again = bytes-again;
+}
 
-returns-2 : tie.Need-returns-2 invariant-loop decreases-loop
-returns-2 c =
-    let odd = is_odd _ c.before.before.if1.false c.before.if2.true in
-    (c.no-bytes2.ensures ∙ odd, (bytes-read-back, bytes-again))
+pub returns-then-size-ne0 : goal.returns-then-size-ne0
+returns-then-size-ne0 c = record {
+  value = c.no_bytes-then-size-ne0.ensures ∙ is_odd _ c.if-size-gt16.false c.if-size-ne0.true;
+  read_back = bytes-read-back;
+  printed_again = bytes-again;
+}
 
-loop-holds : tie.Need-loop-init invariant-loop decreases-loop
-loop-holds c = (omega arith, omega arith, refl, λ t. refl, omega arith)
-
-shared-slice-read-value-of-2 : tie.Need-shared-slice-read-value-of-2 invariant-loop decreases-loop
-shared-slice-read-value-of-2 c =
-    let e = even (head c.before).before in
-    omega arith
-
-loop-again : tie.Need-loop-preserved invariant-loop decreases-loop
-loop-again c =
-    let s = (start (head (high c.before)).before).args.text.now in
-    let l = (head (high c.before)).loop in
-    let v = even (head (high c.before)).before in
+pub loop-i-preserved : goal.loop-i-preserved
+loop-i-preserved c =
+    let s = c.args.text.now in
+    let l = c.loop-i in
+    let v = even s c.if-size-ne0.false in
     let h : l.i + 1 < length s = omega arith in
-    let x = (high c.before).value_of_lem.result in
-    let y = c.before.value-of2.result in
-    let ex = (high c.before).value_of_lem.ensures in
-    let ey = c.before.value-of2.ensures in (
+    let x = c.value_of-high.result in
+    let y = c.value_of-low.result in
+    let ex = c.value_of-high.ensures in
+    let ey = c.value_of-low.ensures in (
       omega arith,
       omega arith,
-      both s l.i l.worst x y h ex ey l.inv.2,
-      λ t. rw c.byte_of.ensures (stored s l.i l.worst x y h ex ey l.inv.2 l.bytes l.n t) ∙ l.inv.3 t,
-      sym (counted s l.i l.n h) ∙ l.inv.4,
+      both s l.i l.worst x y h ex ey l.invariant.2,
+      λ t. rw c.byte_of.ensures (stored s l.i l.worst x y h ex ey l.invariant.2 l.bytes l.n t) ∙ l.invariant.3 t,
+      sym (counted s l.i l.n h) ∙ l.invariant.4,
     )
 
-returns-3 : tie.Need-returns-3 invariant-loop decreases-loop
-returns-3 c =
-    let e = c.before.before.before.before in
-    let l = c.before.before.before.loop in
-    let f = one-bad _ l.i l.worst l.invariant.2 c.before.if3.true in
-    (c.no-bytes3.ensures ∙ no-digits _ e.before.if1.false (even e) f, (bytes-read-back, bytes-again))
+pub returns-then-worst-gt15 : goal.returns-then-worst-gt15
+returns-then-worst-gt15 c =
+    let s = c.args.text.now in
+    let l = c.loop-i in
+    let f = one-bad s l.i l.worst l.invariant.2 c.if-worst-gt15.true in
+    record {
+      value = c.no_bytes-then-worst-gt15.ensures ∙ no-digits s c.if-size-gt16.false (even s c.if-size-ne0.false) f;
+      read_back = bytes-read-back;
+      printed_again = bytes-again;
+    }
 
-returns-4 : tie.Need-returns-4 invariant-loop decreases-loop
-returns-4 c =
-    let s = (start c.before.before.before).args.text.now in
-    let l = c.before.before.loop in
+pub returns : goal.returns
+returns c =
+    let s = c.args.text.now in
+    let l = c.loop-i in
     let t = all-good s l.i l.worst l.invariant.2 (omega arith) (omega arith) in
-    let v = even c.before.before.before in
-    let w = whole s c.before.before.before.before.if1.false v l.bytes l.n l.i (omega arith) t in
-    (w (l.invariant.3 t) l.invariant.4, (bytes-read-back, bytes-again))
-
-pub read-bytes-spec : {M : Type 1} → statement M
-read-bytes-spec =
-    tie.close
-    (tie.spec
-    invariant-loop
-    decreases-loop
-    (λ c κs. search rules)
-    returns
-    (λ c κs. search rules)
-    returns-2
-    loop-holds
-    (λ c. search rules)
-    (λ c κs. search rules)
-    (λ c. search rules)
-    shared-slice-read-value-of-2
-    (λ c κs. search rules)
-    (λ c κs. search rules)
-    (λ c. search rules)
-    (λ c. search rules)
-    (λ c. search rules)
-    (λ c. search rules)
-    loop-again
-    (λ c κs. search rules)
-    returns-3
-    (λ c. search rules)
-    returns-4)
+    let w = whole s c.if-size-gt16.false (even s c.if-size-ne0.false) l.bytes l.n l.i (omega arith) t in
+    record { value = w (l.invariant.3 t) l.invariant.4; read_back = bytes-read-back; printed_again = bytes-again }

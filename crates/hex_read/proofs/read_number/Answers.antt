@@ -1,14 +1,13 @@
 -- `read_number` meets its contract. The invariant: what is left decides whether all are digits, and if they are, reading it behind the
 -- value so far makes the number.
 -- Assumes nothing.
-use Prim.Native.Nat.{ℕ, ◌+◌, ◌*◌, ◌-◌, ◌%◌, ◌^◌, ◌≤◌, ◌<◌}
+use Prim.Native.Nat.{ℕ, ◌+◌, ◌*◌, ◌%◌, ◌^◌, ◌≤◌, ◌<◌}
 use mathlib.Core.Path.{◌≡◌, refl, sym, ap, ◌∙◌}
 use mathlib.Core.Bool.{true, false}
 use mathlib.Core.List.{List, [], ◌∷◌}
 use native.Mathlib.Numerals.{add-one}
 use native.Mathlib.Nat.{pow-suc, pow-succ', pow-le-pow_right, mul_assoc, add-mul, zero-add, zero-mul}
 use native.Mathlib.Omega.{arith}
-use borrow.Author.Rules.{rules}
 use borrow.Author.Tests.{eq-eqb, ne_eqb}
 use lib.Bits.{bit_and, and_mask}
 use lib.ListN.{length, drop, get_or, drop_of_length-le}
@@ -16,9 +15,8 @@ use Rattle.hex_digit.specs.Digit.{digit_value}
 use Rattle.hex_print.specs.Digits.{all_digits, number_in}
 use Rattle.hex_read.specs.Reading.{number, no_number, read_number}
 use Rattle.hex_read.proofs.BackLaws.{number-read-back, number-again}
-use Rattle.hex_read.proofs.ReadLaws.{Passed, next_one, passed, small, one-bad, all-good}
-use Rattle.hex_read.proofs.read_number.Statement.{statement}
-use Rattle.hex_read.proofs.read_number.Tie as tie
+use Rattle.hex_read.proofs.ReadLaws.{next_one, behind, passed, small, one-bad, all-good}
+use Rattle.hex_read.proofs.read_number.Goals as goal
 
 -- a turn
 module _ (i value x : ℕ) (h : i < 8) (v : value < 16 ^ i) where
@@ -33,10 +31,6 @@ module _ (i value x : ℕ) (h : i < 8) (v : value < 16 ^ i) where
 
   pub value-is : x ≤ 15 → value * 16 % 2 ^ 32 + bit_and x 15 ≡ value * 16 + x
   value-is k = omega (arith, room, and_mask x 4)
-
--- the number of digits that stand behind others, which are `value`
-abbrev behind : ℕ → List ℕ → ℕ
-behind value s = value * 16 ^ length s + number_in s
 
 one-digit : (value c : ℕ) (more : List ℕ) → behind value (c ∷ more) ≡ behind (value * 16 + digit_value c) more
 unfolding number_in
@@ -65,33 +59,22 @@ module _ (s : List ℕ) where
         let q : v ≡ number_in s = omega arith in
         simp (eq-eqb (length s) 8 l, t, ← q)
 
-abbrev invariant-loop : tie.invariant-loop
-invariant-loop text value₀ worst₀ i₀ value worst i =
-    (i ≤ 8) × (value < 16 ^ i) × Passed text i worst × (all_digits text ≡ true → behind value (drop i text) ≡ number_in text)
+pub returns-then-text-ne8 : goal.returns-then-text-ne8
+returns-then-text-ne8 c = record {
+  value = not_eight c.args.text.now c.if-text-ne8.true;
+  read_back = number-read-back;
+  printed_again = number-again;
+}
 
-abbrev decreases-loop : tie.decreases-loop
-decreases-loop text value₀ worst₀ i₀ value worst i = 8 - i
+pub loop-i-init : goal.loop-i-init
+loop-i-init c = (omega arith, omega arith, refl, λ t. rw (zero-mul, zero-add))
 
-returns : tie.Need-returns invariant-loop decreases-loop
-returns c = (not_eight c.before.before.args.text.now c.if1.true, (number-read-back, number-again))
-
-loop-holds : tie.Need-loop-init invariant-loop decreases-loop
-loop-holds c = (omega arith, omega arith, refl, λ t. rw (zero-mul, zero-add))
-
-cast-value : tie.Need-overflow-cast-value invariant-loop decreases-loop
-cast-value c = omega (arith, and_mask c.value_of_lem.result 4)
-
-add-value : tie.Need-overflow-add-value invariant-loop decreases-loop
-add-value c =
-    let l = c.before.before.before.loop in
-    omega (arith, room l.i l.value 0 (omega arith) l.invariant.1, and_mask c.value_of_lem.result 4)
-
-loop-again : tie.Need-loop-preserved invariant-loop decreases-loop
-loop-again c =
-    let s = c.before.before.before.before.before.before.args.text.now in
-    let l = c.before.before.before.loop in
-    let x = c.value_of_lem.result in
-    let e = c.value_of_lem.ensures in
+pub loop-i-preserved : goal.loop-i-preserved
+loop-i-preserved c =
+    let s = c.args.text.now in
+    let l = c.loop-i in
+    let x = c.value_of-digit.result in
+    let e = c.value_of-digit.ensures in
     let h : l.i < 8 = omega arith in
     let k : l.i < length s = omega arith in (
       omega arith,
@@ -100,35 +83,24 @@ loop-again c =
       λ t. ap (λ (v : ℕ). behind v (drop (l.i + 1) s)) (value-is l.i l.value x h l.invariant.1 (small s l.i l.worst x k e l.invariant.2 t)) ∙ sym (number-next s l.i l.value x k e) ∙ l.invariant.3 t,
     )
 
-returns-2 : tie.Need-returns-2 invariant-loop decreases-loop
-returns-2 c =
-    let s = c.before.before.before.before.before.args.text.now in
-    let l = c.before.before.loop in
-    (no_number_lem s c.before.before.before.if1.false (one-bad s l.i l.worst l.invariant.2 c.if2.true), (number-read-back, number-again))
+pub returns-then-worst-gt15 : goal.returns-then-worst-gt15
+returns-then-worst-gt15 c =
+    let s = c.args.text.now in
+    let l = c.loop-i in
+    record {
+      value = no_number_lem s c.if-text-ne8.false (one-bad s l.i l.worst l.invariant.2 c.if-worst-gt15.true);
+      read_back = number-read-back;
+      printed_again = number-again;
+    }
 
-returns-3 : tie.Need-returns-3 invariant-loop decreases-loop
-returns-3 c =
-    let s = c.before.before.before.before.before.args.text.now in
-    let l = c.before.before.loop in
-    let n = c.before.before.before.if1.false in
+pub returns : goal.returns
+returns c =
+    let s = c.args.text.now in
+    let l = c.loop-i in
     let e : l.i ≡ 8 = omega arith in
     let t = all-good s l.i l.worst l.invariant.2 (omega arith) (omega arith) in
-    (a-number s n l.value t (rw e at (l.invariant.3 t)), (number-read-back, number-again))
-
-pub read-number-spec : {M : Type 1} → statement M
-read-number-spec =
-    tie.close
-    (tie.spec
-    invariant-loop
-    decreases-loop
-    returns
-    loop-holds
-    (λ c. search rules)
-    (λ c κs. search rules)
-    cast-value
-    add-value
-    (λ c. search rules)
-    (λ c. search rules)
-    loop-again
-    returns-2
-    returns-3)
+    record {
+      value = a-number s c.if-text-ne8.false l.value t (rw e at (l.invariant.3 t));
+      read_back = number-read-back;
+      printed_again = number-again;
+    }
