@@ -3,12 +3,13 @@
 // reads and writes.
 #![tactic(auto)]
 
-use exec_registers::Registers;
-use gridconnect_input::Carry;
-
 mod standard;
 
 ghost use Rattle.std.specs.Prelude.{◌≤◌, length};
+
+use exec_registers::Registers;
+use gridconnect_input::Carry;
+use std::io;
 
 // Whether the program goes on, and the beginning of a line that the next block goes on with.
 #[derive(Drop)]
@@ -20,6 +21,7 @@ struct Turn {
 // A block of the input: its lines are answered, as many at a time as `out` has room for, and each text is written.
 // Nothing more is answered where a text could not be written.
 fn answer_block(
+    rt: &HostRuntime,
     spaces: &[u8],
     flash: &[u8],
     memory: &mut [u8],
@@ -29,7 +31,7 @@ fn answer_block(
     block: &[u8],
     begun: Carry,
     out: &mut [u8],
-) -> Turn
+) -> io::Result<Turn>
     requires { 290 ≤ length out.old }
 {
     let mut carry = begun;
@@ -51,15 +53,14 @@ fn answer_block(
         );
         carry = done.carry;
         at = done.at;
-        if !standard::write(buffer::part(out, 0, done.end)) {
-            return Turn { more: false, carry };
-        }
+        standard::write(rt, buffer::part(out, 0, done.end))?;
     }
-    Turn { more: true, carry }
+    Ok(Turn { more: true, carry })
 }
 
 // One read of the input, answered. At its end a last line that lacks its newline is answered, and nothing more comes.
 fn answer_read(
+    rt: &HostRuntime,
     spaces: &[u8],
     flash: &[u8],
     memory: &mut [u8],
@@ -69,14 +70,14 @@ fn answer_read(
     begun: Carry,
     input: &mut [u8],
     out: &mut [u8],
-) -> Turn
+) -> io::Result<Turn>
     requires { 290 ≤ length out.old }
 {
-    let n = standard::read(input);
+    let n = standard::read(rt, input)?;
     if n > 0 {
         let block = buffer::part(input, 0, n);
         return answer_block(
-            spaces, flash, memory, registers, pool, places, block, begun, out,
+            rt, spaces, flash, memory, registers, pool, places, block, begun, out,
         );
     }
     let end = gridconnect_session::answer_end(
@@ -91,28 +92,29 @@ fn answer_read(
         begun,
         out,
     );
-    standard::write(buffer::part(out, 0, end));
-    Turn {
+    standard::write(rt, buffer::part(out, 0, end))?;
+    Ok(Turn {
         more: false,
         carry: begun,
-    }
+    })
 }
 
 // A proved loop has to end, and nothing says that the input does: the reads are counted down.
-fn main() {
+fn main(rt: HostRuntime) -> io::Result<()> {
     let spaces = demo_board::table_bytes();
     let flash = demo_board::flash_bytes();
     let mut memory = demo_board::memory_bytes();
     let mut registers = exec_registers::new_registers();
     let mut pool = [0u8; 576];
     let mut places = rx_spec::new_places();
-    let mut input = io::large_buffer();
-    let mut out = io::large_buffer();
+    let mut input = [0u8; 65536];
+    let mut out = [0u8; 65536];
     let mut carry = gridconnect_input::start();
     let mut more = true;
     let mut reads = u64::MAX;
     while reads > 0 && more {
         let turn = answer_read(
+            &rt,
             &spaces,
             &flash,
             &mut memory,
@@ -122,9 +124,10 @@ fn main() {
             carry,
             &mut input,
             &mut out,
-        );
+        )?;
         more = turn.more;
         carry = turn.carry;
         reads -= 1;
     }
+    Ok(())
 }

@@ -1,30 +1,27 @@
 // A board by its bytes, and the error of the caller that refuses it.
 use call_error::{CallError, Checked, Position};
+use std::io;
 
-fn print_position(position: Position) {
+fn print_position(rt: &HostRuntime, position: Position) -> io::Result<()> {
     match position {
-        Position::Nowhere => {}
+        Position::Nowhere => Ok(()),
         Position::At(index) => {
-            crate::output::print(b" of space ");
-            crate::output::print_decimal(index);
+            crate::output::print(rt, b" of space ")?;
+            crate::output::print_decimal(rt, index)
         }
     }
 }
 
-pub fn print_error(error: CallError) {
-    crate::output::print(b"refused by B");
-    crate::output::print_decimal(call_error::number_of(error));
-    print_position(call_error::position_of(error));
+pub fn print_error(rt: &HostRuntime, error: CallError) -> io::Result<()> {
+    crate::output::print(rt, b"refused by B")?;
+    crate::output::print_decimal(rt, call_error::number_of(error))?;
+    print_position(rt, call_error::position_of(error))
 }
 
-fn print_checked(checked: Checked) {
+fn print_checked(rt: &HostRuntime, checked: Checked) -> io::Result<()> {
     match checked {
-        Checked::Passed => {
-            crate::output::print(b"not refused");
-        }
-        Checked::Failed(error) => {
-            print_error(error);
-        }
+        Checked::Passed => crate::output::print(rt, b"not refused"),
+        Checked::Failed(error) => print_error(rt, error),
     }
 }
 
@@ -58,14 +55,14 @@ fn check_board(board: &[u8], spaces: &[u8]) -> Checked {
 }
 
 // The line for a board.
-pub fn run_board(board: &[u8]) {
+pub fn run_board(rt: &HostRuntime, board: &[u8]) -> io::Result<()> {
     let spaces = buffer::part(board, 9, 279);
     let checked = check_board(board, spaces);
-    crate::output::print_bytes(buffer::part(board, 0, 9));
-    crate::output::print(b" and a table of ");
-    crate::output::print_byte((spaces.len() / 256 % 256) as u8);
-    crate::output::print_byte((spaces.len() % 256) as u8);
-    crate::output::print(b" bytes: ");
-    print_checked(checked);
-    crate::output::print(b"\n");
+    crate::output::print_bytes(rt, buffer::part(board, 0, 9))?;
+    crate::output::print(rt, b" and a table of ")?;
+    crate::output::print_byte(rt, (spaces.len() / 256 % 256) as u8)?;
+    crate::output::print_byte(rt, (spaces.len() % 256) as u8)?;
+    crate::output::print(rt, b" bytes: ")?;
+    print_checked(rt, checked)?;
+    crate::output::print(rt, b"\n")
 }

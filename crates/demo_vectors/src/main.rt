@@ -9,31 +9,35 @@
 mod boards;
 mod output;
 
+ghost use Rattle.std.specs.Prelude.{◌≤◌, IfOk, length};
+
 use exec_registers::Registers;
-use libc::STDIN_FILENO;
 use node_spec::Handled;
 use reply_answer::Answer;
+use std::io;
+use std::io::{ErrorKind, Read};
 
 // The reply buffer is filled with this before each call, so that a byte past the reply that changed is seen.
 const FILL: u8 = 0xEE;
 
 // Each byte of memory that is not zero any more, with its index.
-fn print_changes(memory: &[u8]) {
+fn print_changes(rt: &HostRuntime, memory: &[u8]) -> io::Result<()> {
     let mut i = 0;
     while i < memory.len() {
-        print_change(i, memory[i]);
+        print_change(rt, i, memory[i])?;
         i += 1;
     }
+    Ok(())
 }
 
-fn print_change(index: usize, byte: u8) {
+fn print_change(rt: &HostRuntime, index: usize, byte: u8) -> io::Result<()> {
     if byte == 0 {
-        return;
+        return Ok(());
     }
-    output::print(b", memory ");
-    output::print_byte((index % 256) as u8);
-    output::print(b"=");
-    output::print_byte(byte);
+    output::print(rt, b", memory ")?;
+    output::print_byte(rt, (index % 256) as u8)?;
+    output::print(rt, b"=")?;
+    output::print_byte(rt, byte)
 }
 
 // Whether the buffer is as it was from index `from` on.
@@ -48,66 +52,64 @@ fn is_untouched(reply: &[u8], from: usize) -> bool {
     true
 }
 
-fn print_untouched(reply: &[u8], from: usize) {
+fn print_untouched(rt: &HostRuntime, reply: &[u8], from: usize) -> io::Result<()> {
     if !is_untouched(reply, from) {
-        output::print(b" BUFFER CHANGED PAST THE REPLY");
+        output::print(rt, b" BUFFER CHANGED PAST THE REPLY")?;
     }
+    Ok(())
 }
 
-fn print_rejected(code: u16) {
-    output::print(b"Rejected ");
-    output::print_byte((code / 256) as u8);
-    output::print_byte((code % 256) as u8);
+fn print_rejected(rt: &HostRuntime, code: u16) -> io::Result<()> {
+    output::print(rt, b"Rejected ")?;
+    output::print_byte(rt, (code / 256) as u8)?;
+    output::print_byte(rt, (code % 256) as u8)
 }
 
-fn print_reply(reply: &[u8], length: usize) {
+fn print_reply(rt: &HostRuntime, reply: &[u8], length: usize) -> io::Result<()> {
     if reply.len() < length {
-        output::print(b" REPLY OUT OF THE BUFFER");
-        return;
+        return output::print(rt, b" REPLY OUT OF THE BUFFER");
     }
-    output::print(b"Received OK 80, reply ");
-    output::print_bytes(buffer::part(reply, 0, length));
+    output::print(rt, b"Received OK 80, reply ")?;
+    output::print_bytes(rt, buffer::part(reply, 0, length))
 }
 
 // The answer; what comes back is how many bytes of the buffer the reply takes.
-fn print_answer(answer: Answer, reply: &[u8]) -> usize {
+fn print_answer(rt: &HostRuntime, answer: Answer, reply: &[u8]) -> io::Result<usize> {
     match answer {
         Answer::Rejected(code) => {
-            print_rejected(code);
-            return 0;
+            print_rejected(rt, code)?;
+            Ok(0)
         }
         Answer::Written(_, _) => {
-            output::print(b"Received OK 00");
-            return 0;
+            output::print(rt, b"Received OK 00")?;
+            Ok(0)
         }
         Answer::UpdateComplete => {
-            output::print(b"Received OK 00");
-            return 0;
+            output::print(rt, b"Received OK 00")?;
+            Ok(0)
         }
         Answer::Replied(length) => {
-            print_reply(reply, length);
-            return length;
+            print_reply(rt, reply, length)?;
+            Ok(length)
         }
     }
 }
 
-fn print_handled(handled: Handled, reply: &[u8]) {
+fn print_handled(rt: &HostRuntime, handled: Handled, reply: &[u8]) -> io::Result<()> {
     match handled {
-        Handled::Refused(error) => {
-            boards::print_error(error);
-        }
+        Handled::Refused(error) => boards::print_error(rt, error),
         Handled::Answered(answer) => {
-            let length = print_answer(answer, reply);
-            print_untouched(reply, length);
+            let length = print_answer(rt, answer, reply)?;
+            print_untouched(rt, reply, length)
         }
     }
 }
 
 // The end of a line.
-fn print_lock(registers: &Registers) {
-    output::print(b", lock ");
-    output::print_bytes(&exec_registers::lock_in(registers));
-    output::print(b"\n");
+fn print_lock(rt: &HostRuntime, registers: &Registers) -> io::Result<()> {
+    output::print(rt, b", lock ")?;
+    output::print_bytes(rt, &exec_registers::lock_in(registers))?;
+    output::print(rt, b"\n")
 }
 
 // A datagram handled by a board that describes the first `count` of the demonstration board's spaces.
@@ -133,21 +135,21 @@ fn handle(
 }
 
 // The line for a datagram on such a board whose lock memory is `held` before.
-fn run_on(datagram: &[u8], count: u8, held: [u8; 6]) {
+fn run_on(rt: &HostRuntime, datagram: &[u8], count: u8, held: [u8; 6]) -> io::Result<()> {
     let mut memory = demo_board::memory_bytes();
     let mut registers = exec_registers::new_registers();
     exec_registers::put_lock(&mut registers, held);
     let mut reply = [FILL; 80];
     let handled = handle(datagram, count, &mut memory, &mut registers, &mut reply);
-    output::print_bytes(datagram);
-    output::print(b": ");
-    print_handled(handled, &reply);
-    print_changes(&memory);
-    print_lock(&registers);
+    output::print_bytes(rt, datagram)?;
+    output::print(rt, b": ")?;
+    print_handled(rt, handled, &reply)?;
+    print_changes(rt, &memory)?;
+    print_lock(rt, &registers)
 }
 
 // A line of the input that is being read, and the board that its datagram is for.
-#[derive(Drop)]
+#[derive(Clone, Copy)]
 struct Row {
     bytes: [u8; 288],
     len: usize,
@@ -237,82 +239,120 @@ fn lock_before(held: bool) -> [u8; 6] {
 }
 
 // The board of a line, run.
-fn run_board(bytes: [u8; 288], len: usize) {
-    boards::run_board(buffer::part(&bytes, 0, len));
+fn run_board(rt: &HostRuntime, bytes: [u8; 288], len: usize) -> io::Result<()> {
+    boards::run_board(rt, buffer::part(&bytes, 0, len))
 }
 
 // The datagram of a line, run.
-fn run_bytes(bytes: [u8; 288], len: usize, count: u8, held: bool) {
-    run_on(buffer::part(&bytes, 0, len), count, lock_before(held));
+fn run_bytes(
+    rt: &HostRuntime,
+    bytes: [u8; 288],
+    len: usize,
+    count: u8,
+    held: bool,
+) -> io::Result<()> {
+    run_on(rt, buffer::part(&bytes, 0, len), count, lock_before(held))
 }
 
 // The end of a line: its datagram or its board is run, unless the line is a setting.
-fn end_row(row: Row) -> Row {
+fn end_row(rt: &HostRuntime, row: Row) -> io::Result<Row> {
     if row.setting {
-        return next_row(row);
+        return Ok(next_row(row));
     }
     let bytes = row.bytes;
     if row.board {
-        run_board(bytes, row.len);
-        return next_row(row);
+        run_board(rt, bytes, row.len)?;
+        return Ok(next_row(row));
     }
-    run_bytes(bytes, row.len, row.count, row.held);
-    next_row(row)
+    run_bytes(rt, bytes, row.len, row.count, row.held)?;
+    Ok(next_row(row))
 }
 
 // One byte of the input.
-fn read_byte(row: Row, byte: u8) -> Row {
+fn read_byte(rt: &HostRuntime, row: Row, byte: u8) -> io::Result<Row> {
     if row.title {
-        output::echo(byte);
+        output::echo(rt, byte)?;
         if byte == b'\n' {
-            return next_row(row);
+            return Ok(next_row(row));
         }
-        return row;
+        return Ok(row);
     }
     if byte == b'\n' {
-        return end_row(row);
+        return end_row(rt, row);
     }
     if row.setting {
-        return with_setting(row, byte);
+        return Ok(with_setting(row, byte));
     }
-    start_or_digit(row, byte)
+    start_or_digit(rt, row, byte)
 }
 
 // A byte that is neither of a title nor of a setting nor a newline. Blanks mean nothing.
-fn start_or_digit(row: Row, byte: u8) -> Row {
+fn start_or_digit(rt: &HostRuntime, row: Row, byte: u8) -> io::Result<Row> {
     let mut next = row;
     if byte == b'#' {
-        output::echo(byte);
+        output::echo(rt, byte)?;
         next.title = true;
-        return next;
+        return Ok(next);
     }
     if byte == b'@' {
         next.setting = true;
-        return next;
+        return Ok(next);
     }
     if byte == b'!' {
         next.board = true;
-        return next;
+        return Ok(next);
     }
     if byte == b' ' {
-        return row;
+        return Ok(row);
     }
-    with_digit(row, byte)
+    Ok(with_digit(row, byte))
 }
 
-fn read_all(input: &[u8]) {
+fn read_all(rt: &HostRuntime, input: &[u8]) -> io::Result<()> {
     let mut row = first_row();
     let mut i = 0;
     while i < input.len() {
-        row = read_byte(row, input[i]);
+        row = read_byte(rt, row, input[i])?;
         i += 1;
     }
+    Ok(())
 }
 
-fn main() {
-    let mut input = io::large_buffer();
-    let got = io::read_full(STDIN_FILENO, &mut input);
-    if got <= 65536 {
-        read_all(&input[..got]);
+// Some bytes of the input, and none at its end. A read that a signal interrupts is made again; a proved loop has to
+// end, and nothing says that interruptions do: the calls are counted.
+fn read_some(rt: &HostRuntime, input: &mut [u8]) -> io::Result<usize>
+    ensures { IfOk result (λ n. n ≤ length input.new) }
+{
+    for _ in 0..u64::MAX {
+        match rt.stdin().read(input) {
+            Ok(count) => return Ok(count),
+            Err(error) => {
+                if error.kind() != ErrorKind::Interrupted {
+                    return Err(error);
+                }
+            }
+        }
     }
+    Ok(0)
+}
+
+// The input to its end, as far as there is room for it: how many bytes it has.
+fn read_full(rt: &HostRuntime, input: &mut [u8]) -> io::Result<usize>
+    ensures { IfOk result (λ n. n ≤ length input.new) }
+{
+    let mut got: usize = 0;
+    while got < input.len() {
+        let more = read_some(rt, &mut input[got..])?;
+        if more == 0 {
+            return Ok(got);
+        }
+        got += more;
+    }
+    Ok(got)
+}
+
+fn main(rt: HostRuntime) -> io::Result<()> {
+    let mut input = [0u8; 65536];
+    let got = read_full(&rt, &mut input)?;
+    read_all(&rt, &input[..got])
 }
