@@ -1,0 +1,13 @@
+-- `rx_place::put_place` meets its contract: a place that is not there changes nothing.
+-- Assumes nothing.
+use Prim.Native.Nat.{◌*◌}
+use native.Mathlib.Omega.{arith}
+use Rattle.buffer.proofs.Laws.{placed-not}
+use Rattle.rx_place_spec.specs.Place.{place}
+use Rattle.rx_place_spec.specs.PlaceBytes.{place_bytes}
+use Rattle.rx_place.proofs.put_place.Goals as goal
+
+pub returns-then-places-i : goal.returns-then-places-i
+returns-then-places-i c =
+    let a = c.args in
+    placed-not (8 * a.i) (place_bytes (place a.held a.len a.source a.tick a.swallowing)) a.places.now (omega arith)
