@@ -32,8 +32,8 @@ FLAGS = {
 
 ROOT, OUT = (os.path.abspath(word) for word in sys.argv[1:3])
 TARGETS = sys.argv[3:]
-KIT = os.path.dirname(os.path.dirname(subprocess.run(["rt", "doc"], check=True, capture_output=True, text=True).stdout.strip()))
-TOOLS = os.path.join(KIT, "on", "x86_64", "toolchain", "bin")
+KIT = os.path.dirname(subprocess.run(["rt", "doc"], check=True, capture_output=True, text=True).stdout.strip())
+TOOLS = os.path.join(KIT, "toolchain", "bin")
 
 
 def fail(words):
@@ -159,7 +159,7 @@ def test_words():
 
 # An rt of which one word does something else, as that of a future kit might.
 OTHER_RT = """#!/bin/sh
-compiler=$RATTLE_HOME/on/x86_64/toolchain/bin/clang
+compiler=$RATTLE_HOME/toolchain/bin/clang
 case $1 in
 {case})
     {action}
@@ -169,11 +169,11 @@ esac
 """
 OTHER_KITS = (
     ("doc", "echo /nowhere/docs/START-HERE.md", "toolchain/bin/clang is not there"),
-    ("staticlib", "exit 0", "gave its compiler no module"),
-    ("staticlib", 'cd "{out}" && "$compiler" -x ir -c other.bc -o other.o', "has no line '^define .*@bujorelm_handle_frame('"),
-    ("staticlib", 'cd "{out}" && "$compiler" -x ir -c other.bc -o other.o && "$compiler" -x ir -c other.bc -o other.o', "gave its compiler 2 modules"),
-    ("staticlib", 'cd "{out}" && "$compiler" -x ir -c strange.bc -o other.o', "have attributes that are not known here"),
-    ("staticlib", "echo a proof fails; exit 1", "the library is not proved"),
+    ("lib", "exit 0", "gave its compiler no module"),
+    ("lib", 'cd "{out}" && "$compiler" -x ir -c other.bc -o other.o', "has no line '^define .*@bujorelm_handle_frame('"),
+    ("lib", 'cd "{out}" && "$compiler" -x ir -c other.bc -o other.o && "$compiler" -x ir -c other.bc -o other.o', "gave its compiler 2 modules"),
+    ("lib", 'cd "{out}" && "$compiler" -x ir -c strange.bc -o other.o', "have attributes that are not known here"),
+    ("lib", "echo a proof fails; exit 1", "the library is not proved"),
 )
 
 
@@ -192,6 +192,7 @@ def test_other_kits():
         # Nothing is written where the archives are.
         copy = os.path.join(OUT, "copy")
         os.makedirs(os.path.join(copy, "firmware"), exist_ok=True)
+        os.makedirs(os.path.join(copy, "crates", "bujorelm"), exist_ok=True)
         shutil.copy(os.path.join(ROOT, "firmware", "build"), os.path.join(copy, "firmware", "build"))
         with open(os.path.join(copy, "crates.txt"), "w", encoding="utf-8"):
             pass

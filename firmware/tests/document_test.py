@@ -14,7 +14,7 @@ import sys
 
 ROOT, OUT = (os.path.abspath(word) for word in sys.argv[1:3])
 # Commands that prove, or install: the gate has done so.
-DONE = ("apt-get ", "firmware/build ", "rt staticlib ")
+DONE = ("apt-get ", "firmware/build ", "host/build ")
 
 
 def fail(words):

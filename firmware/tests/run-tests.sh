@@ -5,7 +5,7 @@
 # usage: firmware/tests/run-tests.sh [ROOT]
 #
 # ROOT is the root of the repository (default: the one that this file is in). The archives must be there, as made by `firmware/build all` and
-# `rt staticlib bujorelm_tool`. What is made goes to ROOT/target/firmware/tests. CALLS is how many calls are compared on each processor, in
+# `host/build bujorelm_tool`. What is made goes to ROOT/target/firmware/tests. CALLS is how many calls are compared on each processor, in
 # batches of 5,000. The tables of docs/PERFORMANCE.md are left in target/firmware/tests/figures.md; put-figures puts them there.
 set -eu
 root=$(cd "${1:-$(dirname "$0")/../..}" && pwd)
@@ -22,7 +22,7 @@ fail() {
 for target in $targets; do
     [ -f "$root/target/firmware/$target/libbujorelm.a" ] || fail "the archive for $target is not there: run firmware/build all"
 done
-[ -f "$root/target/staticlib/libbujorelm_tool.a" ] || fail "target/staticlib/libbujorelm_tool.a is not there: run rt staticlib bujorelm_tool"
+[ -f "$root/target/staticlib/libbujorelm_tool.a" ] || fail "target/staticlib/libbujorelm_tool.a is not there: run host/build bujorelm_tool"
 for program in "${CC:=cc}" python3 qemu-system-arm:qemu-system-arm qemu-system-riscv32:qemu-system-misc; do
     command -v "${program%%:*}" >/dev/null || fail "${program%%:*} is not there: install Debian's package ${program##*:}"
 done

@@ -5,7 +5,7 @@
 # usage: host/c/run-tests.sh [ROOT]
 #
 # ROOT is the root of the repository (default: the one that this file is in). ROOT/target/staticlib/libbujorelm.a and
-# libbujorelm_tool.a must be there, as built by `rt staticlib bujorelm` and `rt staticlib bujorelm_tool`. Everything
+# libbujorelm_tool.a must be there, as built by `host/build bujorelm` and `host/build bujorelm_tool`. Everything
 # else is built into ROOT/target/host-c. CC and CXX choose the compilers.
 set -eu
 
@@ -21,8 +21,8 @@ fail() {
     exit 1
 }
 
-[ -f "$library" ] || fail "$library is not there: run rt staticlib bujorelm"
-[ -f "$tool" ] || fail "$tool is not there: run rt staticlib bujorelm_tool"
+[ -f "$library" ] || fail "$library is not there: run host/build bujorelm"
+[ -f "$tool" ] || fail "$tool is not there: run host/build bujorelm_tool"
 for program in "${CC:=cc}" "${CXX:=c++}" python3 valgrind nm objdump; do
     command -v "$program" > /dev/null || fail "$program is not there"
 done

@@ -14,7 +14,7 @@ fn main() {
         let library = directory.join(format!("lib{half}.a"));
         assert!(
             library.exists(),
-            "{} is missing: build it with `rt staticlib {half}`",
+            "{} is missing: build it with `host/build {half}`",
             library.display()
         );
         println!("cargo:rustc-link-search=native={}", directory.display());

@@ -3,8 +3,8 @@
 # at every age of a held place, and by random calls with a fixed seed and with one from the clock.
 # (The model has tests of its own.)
 # Both archives of the library have to be there: target/staticlib/libbujorelm.a, the board's half,
-# built by `rt staticlib bujorelm`, and target/staticlib/libbujorelm_tool.a, the tool's, built by
-# `rt staticlib bujorelm_tool`.
+# built by `host/build bujorelm`, and target/staticlib/libbujorelm_tool.a, the tool's, built by
+# `host/build bujorelm_tool`.
 set -eu
 cd "$(dirname "$0")/../.."
 
@@ -15,7 +15,7 @@ calls=21000000
 
 for half in bujorelm bujorelm_tool; do
     if [ ! -f "target/staticlib/lib$half.a" ]; then
-        echo "host/compare: target/staticlib/lib$half.a is missing: build it with \`rt staticlib $half\`" >&2
+        echo "host/compare: target/staticlib/lib$half.a is missing: build it with \`host/build $half\`" >&2
         exit 1
     fi
 done

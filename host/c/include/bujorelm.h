@@ -2,7 +2,7 @@
  * bujorelm.h - the board's side of OpenLCB memory configuration, for a CAN driver in C.
  *
  * Processors: x86-64 with the System V calling convention, as on Linux; Arm Cortex-M0 to M7; RISC-V RV32IMC.
- * Toolchain:  Rattle, in the version that docs/ASSUMPTIONS.md names. `rt staticlib bujorelm` builds the archive for
+ * Toolchain:  Rattle, in the version that docs/ASSUMPTIONS.md names. `host/build bujorelm` builds the archive for
  *             x86-64, and firmware/build those for the others, which docs/FIRMWARE.md explains.
  *
  * This header is the same for every processor: what is lent has the same bytes everywhere, with pointers of 4 bytes and

@@ -1,7 +1,7 @@
 /*
  * bujorelm_tool.h - the tool's half of OpenLCB memory configuration, for a configuration tool in C.
  *
- * The archive is libbujorelm_tool.a, built by `rt staticlib bujorelm_tool`; the platform and the rules that hold for
+ * The archive is libbujorelm_tool.a, built by `host/build bujorelm_tool`; the platform and the rules that hold for
  * every function are those of bujorelm.h. A tool also links libbujorelm.a, for GridConnect lines and for cutting a
  * command into frames. docs/TOOL.md shows how a tool uses both.
  *

@@ -100,7 +100,7 @@ def main():
     program = [block for kind, block in blocks if kind == "c"]
     outputs = [block for kind, block in blocks if kind == ""]
     expect((len(shell), len(program), len(outputs)), (3, 3, 2), "the blocks of the document")
-    expect(shell[0], "rt staticlib bujorelm\n", "the line that builds the library")
+    expect(shell[0], "host/build bujorelm\n", "the line that builds the library")
 
     expect(program[0], source("host/c/example/minimal.c"), "the program in the document")
     expect(program[1] in source("host/c/example/socketcan.c"), True, "the header of a frame from SocketCAN, as in the example")

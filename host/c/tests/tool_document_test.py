@@ -155,7 +155,7 @@ def main():
     blocks = re.findall(r"^```(\w*)\n(.*?)^```$", text, re.M | re.S)
     shell, program, outputs = ([block for kind, block in blocks if kind == wanted] for wanted in ("sh", "c", ""))
     expect((len(shell), len(program), len(outputs)), (7, 3, 4), "the blocks of the document")
-    expect(shell[0], "rt staticlib bujorelm\nrt staticlib bujorelm_tool\n", "the lines that build the library")
+    expect(shell[0], "host/build bujorelm\nhost/build bujorelm_tool\n", "the lines that build the library")
     expect(program[0], source("host/c/example/ask.c"), "the program in the document")
     expect(program[1] in source("host/c/tool_frames.c"), True, "the joining of a message, as in the bench tool")
     expect(program[2] in source("host/c/example/change.c"), True, "the loop over the changes, as in the example")
