@@ -13,18 +13,7 @@ use Rattle.hex_print.specs.Digits.{digits_of, hex_digits}
 use Rattle.hex_print.proofs.DigitLaws.{length_digits, length-hex}
 use Rattle.gridconnect_print.specs.Line.{line_of}
 use Rattle.gridconnect_print.proofs.LineLaws.{line-length, line-text, placed-behind}
-use Rattle.gridconnect_print.proofs.put_line.Statement.{statement}
-use Rattle.gridconnect_print.proofs.put_line.Tie as tie
-
--- the points of the code, each from the one after it: the start, and where the head and the digits are put
-abbrev start : tie.After-put-head → tie.Start
-start c = c.before.before.before.before.before
-
-abbrev head : tie.After-bytes2 → tie.After-put-head
-head c = c.before.before.before
-
-abbrev digits : tie.After-put-pair → tie.After-put-digits
-digits c = c.before.before.before.before
+use Rattle.gridconnect_print.proofs.put_line.Goals as goal
 
 -- the pieces in their order
 composed : (header : ℕ) (payload : List ℕ) (n at : ℕ) (buffer : List ℕ) {o₁ o₂ o₃ : List ℕ} → length payload ≡ n → at + (13 + n * 2) ≤ length buffer
@@ -46,39 +35,10 @@ composed header payload n at buffer {o₁} {o₂} size fits e₁ e₂ e₃ =
     ∙ ap (λ (x : List ℕ). put_at at x buffer) r
     ∙ sym (placed-fits at (line_of header payload ++ 10 ∷ []) buffer (omega arith))
 
-full : (c : tie.Start) → length c.args.frame.bytes ≡ 8
-full c = search rules
-
-payload-length : (c : tie.Start) → length (take c.args.frame.len c.args.frame.bytes) ≡ c.args.frame.len
-payload-length c = let h = full c in length-take-le c.args.frame.len c.args.frame.bytes (omega arith)
-
-array-share-prefix-bytes : tie.Need-array-share-prefix-bytes
-array-share-prefix-bytes c = let h = full (start c.before.before) in omega arith
-
-slice-aggregate-put-digits : tie.Need-slice-aggregate-put-digits
-slice-aggregate-put-digits c = sym (payload-length (start (head c)))
-
-returns : tie.Need-returns
+pub returns : goal.returns
 returns c =
-    let d = digits c.before.before in
-    let h = head d.before.before in
-    let s = start h in
-    composed _ _ _ _ _ (payload-length s) s.pre.1 h.put-head.ensures d.put-digits.ensures
-    c.before.before.put-pair.ensures ∙ rw (line-text s.args.frame s.pre.0)
-
-pub put_line_spec : {M : Type 1} → statement M
-put_line_spec =
-    tie.close
-    (tie.spec
-    (λ c. search rules)
-    (λ c κs. search rules)
-    array-share-prefix-bytes
-    slice-aggregate-put-digits
-    (λ c. search rules)
-    (λ c κs. search rules)
-    (λ c. search rules)
-    (λ c. search rules)
-    (λ c. search rules)
-    (λ c κs. search rules)
-    (λ c. search rules)
-    returns)
+    let f = c.args.frame in
+    let full : length f.bytes ≡ 8 = search rules in
+    let size : length (take f.len f.bytes) ≡ f.len = length-take-le f.len f.bytes (omega arith) in
+    composed _ _ _ _ _ size c.requires.1 c.put_head.ensures c.put_digits.ensures c.put_pair.ensures
+    ∙ rw (line-text f c.requires.0)

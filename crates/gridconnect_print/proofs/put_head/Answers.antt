@@ -4,22 +4,13 @@ use Prim.Native.Nat.{ℕ, ◌+◌, ◌≤◌}
 use mathlib.Core.Path.{◌≡◌, sym, ◌∙◌}
 use mathlib.Core.List.{List, [], ◌∷◌, ◌++◌}
 use native.Mathlib.Omega.{arith}
-use borrow.Author.Rules.{rules}
 use lib.ListN.{length, length-append}
 use Rattle.buffer.specs.Buffer.{placed, put_at}
 use Rattle.buffer.proofs.Laws.{placed-fits}
 use Rattle.hex_print.specs.Digits.{hex_digits}
 use Rattle.hex_print.proofs.DigitLaws.{length-hex}
 use Rattle.gridconnect_print.proofs.LineLaws.{placed-behind}
-use Rattle.gridconnect_print.proofs.put_head.Statement.{statement}
-use Rattle.gridconnect_print.proofs.put_head.Tie as tie
-
--- the points of the code, each from the one after it: where the first two pieces are put
-abbrev pair : tie.After-put-number → tie.After-put-pair
-pair c = c.before.before.before.before
-
-abbrev number : tie.After-put-byte → tie.After-put-number
-number c = c.before.before.before.before
+use Rattle.gridconnect_print.proofs.put_head.Goals as goal
 
 composed : (header at : ℕ) (buffer : List ℕ) {o₁ o₂ o₃ : List ℕ} → at + 11 ≤ length buffer
     → o₁ ≡ placed at (58 ∷ 88 ∷ []) buffer → o₂ ≡ placed (at + 2) (hex_digits 8 header) o₁ → o₃ ≡ placed (at + 10) (78 ∷ []) o₂
@@ -33,19 +24,5 @@ composed header at buffer {o₁} {o₂} fits e₁ e₂ e₃ =
     let q₂ : o₂ ≡ put_at at xs buffer = e₂ ∙ placed-behind at (at + 2) (58 ∷ 88 ∷ []) h buffer q₁ (omega arith) (omega arith) in
     e₃ ∙ placed-behind at (at + 10) xs (78 ∷ []) buffer q₂ (omega arith) (omega arith) ∙ sym (placed-fits at (xs ++ 78 ∷ []) buffer (omega arith))
 
-returns : tie.Need-returns
-returns c =
-    composed _ _ _ (omega arith) (pair (number c.before.before)).put-pair.ensures
-    (number c.before.before).put-number.ensures.0 c.before.before.put_byte.ensures
-
-pub put_head_spec : {M : Type 1} → statement M
-put_head_spec =
-    tie.close
-    (tie.spec
-    (λ c κs. search rules)
-    (λ c. search rules)
-    (λ c κs. search rules)
-    (λ c. search rules)
-    (λ c κs. search rules)
-    (λ c. search rules)
-    returns)
+pub returns : goal.returns
+returns c = composed _ _ _ (omega arith) c.put_pair.ensures c.put_number.ensures.out_value c.put_byte.ensures
