@@ -4,13 +4,13 @@ use mathlib.Core.Path.{◌≡◌, refl, sym, ap, ◌∙◌}
 use mathlib.Core.Bool.{true, false}
 use mathlib.Core.List.{List}
 use Prim.Native.Nat.{ℕ}
-use Rattle.buffer.proofs.Choice.{by-test, cond-false}
+use Rattle.buffer.proofs.Choice.{by-test}
 use Rattle.call_error.specs.CallErrors.{or_else}
 use Rattle.call_error.specs.declared.CallError.{CallError}
 use Rattle.call_error.specs.declared.CallError.TheVariants.{B7BadReceptionState}
 use Rattle.call_error.specs.declared.Checked.{Checked}
 use Rattle.call_error.specs.declared.Checked.TheVariants.{Passed, Failed}
-use Rattle.call_error.proofs.Laws.{bad, or_else_passed}
+use Rattle.call_error.proofs.Laws.{bad}
 use Rattle.rx_place_spec.specs.State.{State}
 use Rattle.rx_spec.specs.Reception.{sound, Joined}
 use Rattle.rx_join_spec.specs.declared.JoinResult.{JoinResult}
