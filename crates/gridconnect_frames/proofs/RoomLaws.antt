@@ -2,13 +2,13 @@
 -- Assumes nothing.
 use Prim.Native.Nat.{ℕ, ◌+◌, ◌≤◌, ◌<◌}
 use mathlib.Core.Path.{◌≡◌, sym, ◌∙◌}
-use mathlib.Core.Bool.{Bool, true, false, not}
-use borrow.Author.Tests.{leb-true, leb-false, not-true, not-false}
+use mathlib.Core.Bool.{Bool, true, false}
+use borrow.Author.Tests.{leb-true, leb-false}
 use Rattle.gridconnect_frames.specs.Room.{has_room}
 
 module _ (at size : ℕ) {r : Bool} (e : r ≡ has_room at size) where
-  pub room_none : not r ≡ true → size < at + 290
-  room_none t = leb-false (at + 290) size (sym e ∙ not-true r t)
+  pub room_none : r ≡ false → size < at + 290
+  room_none t = leb-false (at + 290) size (sym e ∙ t)
 
-  pub room_there : not r ≡ false → at + 290 ≤ size
-  room_there t = leb-true (at + 290) size (sym e ∙ not-false r t)
+  pub room_there : r ≡ true → at + 290 ≤ size
+  room_there t = leb-true (at + 290) size (sym e ∙ t)
