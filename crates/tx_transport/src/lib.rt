@@ -31,6 +31,7 @@ fn put_reply(out: &mut [u8], top: u32, board: u16, tool: u16, part: &[u8]) -> us
 
 // Received OK with its flags, from the board to a tool: 1, or 0 and no frame made where an alias is over 4,095, which
 // no header carries.
+#[tactic(auto, unfolding(crate::specs::Transport::received_ok))]
 pub fn received_ok(board: u16, tool: u16, flags: u8, frames: &mut [u8; 160]) -> usize
     ensures count { result ≡ length (received_ok board tool flags) }
     ensures bytes { frames.new ≡ over (frames_bytes (received_ok board tool flags)) frames.old }
@@ -69,6 +70,7 @@ pub fn cut_reply(board: u16, tool: u16, reply: &[u8], frames: &mut [u8; 160]) ->
 
 // Rejected with its code, from the board to a tool: 1, or 0 and no frame made where an alias is over 4,095, which no
 // header carries.
+#[tactic(auto, unfolding(crate::specs::Transport::rejected_with))]
 pub fn rejected(board: u16, tool: u16, code: u16, frames: &mut [u8; 160]) -> usize
     ensures count { result ≡ length (rejected_with board tool code) }
     ensures bytes { frames.new ≡ over (frames_bytes (rejected_with board tool code)) frames.old }
