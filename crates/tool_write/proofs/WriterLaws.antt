@@ -2,11 +2,11 @@
 -- Assumes nothing.
 use Prim.Native.Nat.{ℕ, ◌+◌, ◌≤◌}
 use mathlib.Core.Path.{◌≡◌, sym, ap, ◌∙◌}
-use mathlib.Core.Bool.{Bool, true, false, not}
+use mathlib.Core.Bool.{Bool, true, false}
 use mathlib.Core.List.{List, ◌++◌}
 use native.Mathlib.Omega.{arith}
 use lib.ListN.{length}
-use borrow.Author.Tests.{le-leb, not-true, not-false}
+use borrow.Author.Tests.{le-leb}
 use Rattle.buffer.specs.Buffer.{over}
 use Rattle.cmd_fields.specs.Commands.{head_bytes, head_length}
 use Rattle.cmd_fields.specs.declared.Form.{Form}
@@ -27,8 +27,8 @@ module _ (command s a : ℕ) (content : List ℕ) {form : Form} (f : form ≡ fo
       rw (f, le-leb (length (opening command s a ++ content)) (length before) (omega (arith, head_small s))) at agrees.buffer
 
 -- what a test of the code says of what it computes
-pub refused : {t s : Bool} → t ≡ s → not t ≡ true → s ≡ false
-refused {t} e h = sym e ∙ not-true t h
+pub refused : {t s : Bool} → t ≡ s → t ≡ false → s ≡ false
+refused e h = sym e ∙ h
 
-pub passed : {t s : Bool} → t ≡ s → not t ≡ false → s ≡ true
-passed {t} e h = sym e ∙ not-false t h
+pub passed : {t s : Bool} → t ≡ s → t ≡ true → s ≡ true
+passed e h = sym e ∙ h
