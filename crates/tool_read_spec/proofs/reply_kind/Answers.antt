@@ -4,76 +4,57 @@ use mathlib.Core.Path.{sym}
 use native.Mathlib.Omega.{arith}
 use Rattle.tool_read_spec.specs.Finding.{kind_of_reply}
 use Rattle.tool_read_spec.proofs.KindLaws.{is_read, is-read-failure, is-written, is-write-failure, is-other}
-use Rattle.tool_read_spec.proofs.reply_kind.Statement.{statement}
-use Rattle.tool_read_spec.proofs.reply_kind.Tie as tie
+use Rattle.tool_read_spec.proofs.reply_kind.Goals as goal
 
-returns : tie.Need-returns
+pub returns-in-130 : goal.returns-in-130
 unfolding kind_of_reply
-returns c = rw c.match.keys1
+returns-in-130 c = rw c.in-130.is
 
-returns-2 : tie.Need-returns-2
+pub returns-in-134 : goal.returns-in-134
 unfolding kind_of_reply
-returns-2 c = rw c.match.keys2
+returns-in-134 c = rw c.in-134.is
 
-returns-3 : tie.Need-returns-3
+pub returns-in-135 : goal.returns-in-135
 unfolding kind_of_reply
-returns-3 c = rw c.match.keys3
+returns-in-135 c = rw c.in-135.is
 
-returns-4 : tie.Need-returns-4
+pub returns-in-138 : goal.returns-in-138
 unfolding kind_of_reply
-returns-4 c = rw c.match.keys4
+returns-in-138 c = rw c.in-138.is
 
-returns-5 : tie.Need-returns-5
-returns-5 c = sym (is-written _ (omega arith) (omega arith))
+pub returns-in-16-to-19 : goal.returns-in-16-to-19
+returns-in-16-to-19 c = sym (is-written _ (omega arith) (omega arith))
 
-returns-6 : tie.Need-returns-6
-returns-6 c = sym (is-write-failure _ (omega arith) (omega arith))
+pub returns-in-24-to-27 : goal.returns-in-24-to-27
+returns-in-24-to-27 c = sym (is-write-failure _ (omega arith) (omega arith))
 
-returns-7 : tie.Need-returns-7
-returns-7 c = sym (is_read _ (omega arith) (omega arith))
+pub returns-in-80-to-83 : goal.returns-in-80-to-83
+returns-in-80-to-83 c = sym (is_read _ (omega arith) (omega arith))
 
-returns-8 : tie.Need-returns-8
-returns-8 c = sym (is-read-failure _ (omega arith) (omega arith))
+pub returns-in-88-to-91 : goal.returns-in-88-to-91
+returns-in-88-to-91 c = sym (is-read-failure _ (omega arith) (omega arith))
 
-returns-9 : tie.Need-returns-9
-returns-9 c =
+pub returns-in_default : goal.returns-in_default
+returns-in_default c =
     sym (is-other _ (λ p q. omega arith) (λ p q. omega arith) (λ p q. omega arith) (λ p q. omega arith)
     (λ e. omega arith) (λ e. omega arith) (λ e. omega arith) (λ e. omega arith))
 
-returns-10 : tie.Need-returns-10
-returns-10 c =
+pub returns-in_default-2 : goal.returns-in_default-2
+returns-in_default-2 c =
     sym (is-other _ (λ p q. omega arith) (λ p q. omega arith) (λ p q. omega arith) (λ p q. omega arith)
     (λ e. omega arith) (λ e. omega arith) (λ e. omega arith) (λ e. omega arith))
 
-returns-11 : tie.Need-returns-11
-returns-11 c =
+pub returns-in_default-3 : goal.returns-in_default-3
+returns-in_default-3 c =
     sym (is-other _ (λ p q. omega arith) (λ p q. omega arith) (λ p q. omega arith) (λ p q. omega arith)
     (λ e. omega arith) (λ e. omega arith) (λ e. omega arith) (λ e. omega arith))
 
-returns-12 : tie.Need-returns-12
-returns-12 c =
+pub returns-in_default-4 : goal.returns-in_default-4
+returns-in_default-4 c =
     sym (is-other _ (λ p q. omega arith) (λ p q. omega arith) (λ p q. omega arith) (λ p q. omega arith)
     (λ e. omega arith) (λ e. omega arith) (λ e. omega arith) (λ e. omega arith))
 
-returns-13 : tie.Need-returns-13
-returns-13 c =
+pub returns-in_default-5 : goal.returns-in_default-5
+returns-in_default-5 c =
     sym (is-other _ (λ p q. omega arith) (λ p q. omega arith) (λ p q. omega arith) (λ p q. omega arith)
     (λ e. omega arith) (λ e. omega arith) (λ e. omega arith) (λ e. omega arith))
-
-pub reply-kind-spec : {M : Type 1} → statement M
-reply-kind-spec =
-    tie.close
-    (tie.spec
-    returns
-    returns-2
-    returns-3
-    returns-4
-    returns-5
-    returns-6
-    returns-7
-    returns-8
-    returns-9
-    returns-10
-    returns-11
-    returns-12
-    returns-13)
