@@ -3,12 +3,8 @@
 use mathlib.Core.Path.{refl}
 use Rattle.gridconnect_input.specs.Input.{unfinished}
 use Rattle.gridconnect_input.proofs.ChunkLaws.{any_cuts}
-use Rattle.gridconnect_input.proofs.start.Statement.{statement}
-use Rattle.gridconnect_input.proofs.start.Tie as tie
+use Rattle.gridconnect_input.proofs.start.Goals as goal
 
-returns : tie.Need-returns
+pub returns : goal.returns
 unfolding unfinished
-returns c = (refl, any_cuts)
-
-pub start_spec : {M : Type 1} → statement M
-start_spec = tie.close (tie.spec returns)
+returns c = record { carry = refl; cuts = any_cuts }
