@@ -1,14 +1,13 @@
 -- `next_line` meets its contract.
 -- Assumes nothing.
-use Prim.Native.Nat.{ℕ, ◌+◌, ◌-◌, ◌≤◌, ◌<◌}
+use Prim.Native.Nat.{ℕ, ◌+◌, ◌≤◌, ◌<◌}
 use mathlib.Core.Path.{◌≡◌, sym, ap, ◌∙◌}
 use mathlib.Core.Bool.{false}
 use mathlib.Core.List.{List, [], ◌++◌}
 use native.Mathlib.Omega.{arith}
-use borrow.Author.Rules.{rules}
 use borrow.Author.Tests.{lt-ltb, le-ltb}
 use lib.ListN.{length, take, drop, length-drop}
-use lib.Seq.{length-take-le, take_all}
+use lib.Seq.{take_all}
 use Rattle.gridconnect_parse.specs.declared.Parsed.{Parsed}
 use Rattle.gridconnect_input.specs.declared.Carry.{Carry}
 use Rattle.gridconnect_parse.specs.Parsing.{parse_of, bad}
@@ -16,8 +15,7 @@ use Rattle.gridconnect_input.specs.Newline.{until_newline}
 use Rattle.gridconnect_input.specs.Input.{unfinished, carry_with, carry_of, begun_of, line, next_of}
 use Rattle.gridconnect_input.proofs.StepLaws.{take-line, no_newline_lem, step}
 use Rattle.gridconnect_input.proofs.ChunkLaws.{any_cuts}
-use Rattle.gridconnect_lines.proofs.next_line.Statement.{statement}
-use Rattle.gridconnect_lines.proofs.next_line.Tie as tie
+use Rattle.gridconnect_lines.proofs.next_line.Goals as goal
 
 -- the rest of the chunk as the code has it
 module _ (carry : Carry) (chunk : List ℕ) (from n : ℕ) (rest : List ℕ) (er : rest ≡ take (length chunk) (drop from chunk)) (en : n ≡ length (until_newline rest)) where
@@ -26,9 +24,6 @@ module _ (carry : Carry) (chunk : List ℕ) (from n : ℕ) (rest : List ℕ) (er
 
   size : n ≡ length (until_newline (drop from chunk))
   size = en ∙ ap (λ (l : List ℕ). length (until_newline l)) same_rest
-
-  rest-length : length rest ≡ length chunk - from
-  rest-length = ap length same_rest ∙ length-drop from chunk
 
   a_line : (p : Parsed) (s : Carry) → n < length rest → p ≡ parse_of (begun_of carry ++ take n rest) → s ≡ carry_of [] → line p s (from + n + 1) ≡ next_of carry chunk from
   unfolding next_of unfinished
@@ -49,43 +44,14 @@ module _ (carry : Carry) (chunk : List ℕ) (from n : ℕ) (rest : List ℕ) (er
       let es' : s ≡ carry_with (begun_of carry ++ until_newline (drop from chunk)) = es ∙ ap (λ (r : List ℕ). carry_with (begun_of carry ++ r)) q in
       rw (le-ltb _ _ k, ep, es')
 
--- how long the rest is, where a line ends in it
-long : (c : tie.After-start) → length c.before.before.before.before.before.part.result.now ≡ length c.before.before.before.before.before.before.before.args.chunk.now - c.before.before.before.before.before.before.before.args.from
-long c = rest-length c.before.before.before.before.before.before.before.args.carry c.before.before.before.before.before.before.before.args.chunk.now c.before.before.before.before.before.before.before.args.from _ _ c.before.before.before.before.before.part.ensures c.before.before.before.before.line-size.ensures
+pub returns-then-n-rest : goal.returns-then-n-rest
+returns-then-n-rest c =
+    let a = c.args in
+    let e = a_line a.carry a.chunk.now a.from _ _ c.part-rest.ensures c.line_size-n.ensures _ _ c.if-n-rest.true c.parse_end-parsed.ensures c.start-nothing_begun.ensures.carry in
+    record { value = e; step = step a.carry a.chunk.now a.from e; cuts = any_cuts }
 
-slice-aggregate-parse-end : tie.Need-slice-aggregate-parse-end
-slice-aggregate-parse-end c = sym (length-take-le _ c.before.before.before.part.result.now (omega arith))
-
-add-t12 : tie.Need-overflow-add-t12
-add-t12 c = let l = long c in omega arith
-
-add-t13 : tie.Need-overflow-add-t13
-add-t13 c = let l = long c in omega arith
-
-returns : tie.Need-returns
+pub returns : goal.returns
 returns c =
-    let a = c.before.before.before.before.before.before.before.args in
-    let e = a_line a.carry a.chunk.now a.from _ _ c.before.before.before.before.before.part.ensures c.before.before.before.before.line-size.ensures _ _ c.before.before.before.if1.true c.before.parse-end.ensures c.start.ensures.0 in
-    (e, (step a.carry a.chunk.now a.from e, any_cuts))
-
-returns-2 : tie.Need-returns-2
-returns-2 c =
-    let a = c.before.before.before.before.before.before.args in
-    let e = no_line a.carry a.chunk.now a.from _ _ c.before.before.before.before.part.ensures c.before.before.before.line-size.ensures _ _ c.before.before.if1.false c.before.bad-line.ensures c.append.ensures in
-    (e, (step a.carry a.chunk.now a.from e, any_cuts))
-
-pub next_line_spec : {M : Type 1} → statement M
-next_line_spec =
-    tie.close
-    (tie.spec
-    (λ c κs. search rules)
-    (λ c κs. search rules)
-    slice-aggregate-parse-end
-    (λ c κs. search rules)
-    (λ c κs. search rules)
-    add-t12
-    add-t13
-    returns
-    (λ c κs. search rules)
-    (λ c κs. search rules)
-    returns-2)
+    let a = c.args in
+    let e = no_line a.carry a.chunk.now a.from _ _ c.part-rest.ensures c.line_size-n.ensures _ _ c.if-n-rest.false c.bad_line.ensures c.append.ensures in
+    record { value = e; step = step a.carry a.chunk.now a.from e; cuts = any_cuts }
