@@ -1,15 +1,8 @@
 -- `buffer::put` meets its contract. The invariant: the first i bytes of `src` are pasted into `dst`.
 -- Assumes nothing.
-use mathlib.Core.Path.{◌≡◌, refl}
-use Prim.Native.Nat.{◌+◌, ◌-◌, ◌≤◌}
 use native.Mathlib.Omega.{arith}
-use borrow.Author.Rules.{rules}
-use lib.ListN.{length, length-set}
-use lib.Seq.{paste, paste-zero}
+use lib.ListN.{length-set}
 use Rattle.buffer.proofs.Laws.{placed-not, put_step, put_done}
-use Rattle.std.proofs.Common.{take, drop, ℕ, ◌*◌, ◌<◌, ◌/◌, ◌%◌, Bool, true, false, nat_eq, nat_lt, List, [], ◌∷◌, ◌++◌, slice_index_or, slice_set, bit_and, bit_or, Fits, w8, w32, w64, Bor, MutBor}
-use Rattle.buffer.specs.Buffer.{placed}
-use Rattle.buffer.specs.BigEndian.{number_of, bytes_of}
 use Rattle.buffer.proofs.put.Goals as goal
 
 pub returns-then-dst-at : goal.returns-then-dst-at

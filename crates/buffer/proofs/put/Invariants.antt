@@ -1,10 +1,7 @@
-use mathlib.Core.Path.{◌≡◌, refl}
+use mathlib.Core.Path.{◌≡◌}
 use Prim.Native.Nat.{◌+◌, ◌-◌, ◌≤◌}
-use native.Mathlib.Omega.{arith}
-use borrow.Author.Rules.{rules}
-use lib.ListN.{length, length-set}
-use lib.Seq.{paste, paste-zero}
-use Rattle.buffer.proofs.Laws.{placed-not, put_step, put_done}
+use lib.ListN.{length}
+use lib.Seq.{paste}
 use Rattle.buffer.proofs.put.Given as goal
 
 abbrev pub invariant-loop-i : goal.invariant-loop-i
