@@ -1,4 +1,5 @@
--- Laws of what the search found: the caller's errors from B7 on, and the place of a source after what is due is dropped.
+-- Laws of what the search found: the caller's errors from B7 on, and the place of a source after what is due is
+-- dropped.
 -- Assumes nothing.
 use Prim.Native.Nat.{ℕ, suc, ◌≤◌}
 use mathlib.Core.Path.{◌≡◌, refl, sym, ap, ◌∙◌}
@@ -17,10 +18,12 @@ use Rattle.rx_spec.proofs.PlaceLaws.{is_for-held, is_for-source, is_for-free, Go
 use Rattle.rx_place_spec.proofs.ByteLaws.{places-length}
 use Rattle.rx_spec.proofs.DropLaws.{by-due, after-not, none-due, length-due}
 use Rattle.call_error.specs.CallErrors.{or_else}
+use Rattle.call_error.proofs.Laws.{or_else_passed}
 use Rattle.call_error.specs.declared.CallError.TheVariants.{B7BadReceptionState}
 use Rattle.call_error.specs.declared.Checked.{Checked}
 use Rattle.call_error.specs.declared.Checked.TheVariants.{Passed, Failed}
 use Rattle.rx_join_spec.specs.StateCheck.{state_check}
+use Rattle.rx_join_spec.proofs.CheckLaws.{passed-sound}
 use Rattle.rx_search.specs.declared.Looked.{Looked}
 use Rattle.rx_search.specs.Search.{any_due, looked, looked_up}
 
@@ -103,3 +106,18 @@ module _ (s now : ℕ) (xs : List ℕ) (l : Looked) (e : l ≡ looked_up s now (
       })
       (λ d. let n : drop_due now ps ≡ ps = none_dropped now ps (ap (λ (v : Looked). v.due) (sym (by-sound true ok)) ∙ d) in
       record { found = rw d at f ∙ y ∙ rw n; places = rw d at p ∙ sym n; renewal = rw (d, ← n) at b })
+
+  -- no error applies, so B7 lets the places pass, and the drop left what it says
+  pub record Passes (pool : List ℕ) (later : Checked) (r : ℕ) (after : List ℕ) : Type 0 where
+    pub none : or_else (state_check (state_in xs pool)) later ≡ Passed
+    pub ok : sound ps ≡ true
+    pub left : Arrives r after
+
+  pub passes : (pool : List ℕ) (later : Checked) {checked : Checked} →
+      checked ≡ or_else (cond (eqb l.found 9) (Failed B7BadReceptionState) Passed) later → checked ≡ Passed →
+      {r : ℕ} {after : List ℕ} → r ≡ cond l.due (cond (get_or (places_in after) l.found free_place).held l.found 8) l.found →
+      places_in after ≡ cond l.due (drop_due now ps) ps → after ≡ renewed (cond l.due (drop_due now ps) ps) xs → Passes pool later r after
+  passes pool later q p f g b =
+      let n : or_else (state_check (state_in xs pool)) later ≡ Passed = sym (q ∙ first-error_is pool later) ∙ p in
+      let ok : sound ps ≡ true = passed-sound (state_in xs pool) (or_else_passed (state_check (state_in xs pool)) later n).0 in
+      record { none = n; ok = ok; left = arrived ok f g b }

@@ -1,0 +1,78 @@
+-- `rx_join::join` meets its contract.
+-- Assumes nothing.
+use mathlib.Core.Path.{sym, ◌∙◌}
+use Rattle.rx_source_spec.proofs.FreePlaces.{join-aging}
+use Rattle.rx_source_spec.proofs.OneSource.{join-one-source}
+use Rattle.rx_join_spec.proofs.CheckLaws.{refused_ends, joined-ends}
+use Rattle.rx_join_spec.proofs.JoinLaws.{mid_sound, mid_place, long_joins, sound-joins}
+use Rattle.rx_join.proofs.ArriveLaws.{first-error_is, passes}
+use borrow.Author.Rules.{rules}
+use Rattle.rx_join.proofs.join.Goals as goal
+
+pub returns-in-Failed-clause-ends : goal.returns-in-Failed-clause-ends
+returns-in-Failed-clause-ends c =
+    let a = c.args in
+    let l = c.look_up-looked in
+    let e = first-error_is c.source_of-source.result a.tick a.places.now l.result l.ensures a.pool.now a.later in
+    refused_ends (sym (c.first_error-checked.ensures ∙ e) ∙ c.in-Failed.is)
+
+pub returns-in-Failed-clause-aging : goal.returns-in-Failed-clause-aging
+returns-in-Failed-clause-aging c = join-aging
+
+pub returns-in-Failed-clause-source : goal.returns-in-Failed-clause-source
+returns-in-Failed-clause-source c = join-one-source
+
+-- what the search found and the drop left, where no error applies
+pub returns-then-payload-gt8-clause-ends : goal.returns-then-payload-gt8-clause-ends
+returns-then-payload-gt8-clause-ends c =
+    let a = c.args in
+    let s = c.source_of-source in
+    let l = c.look_up-looked in
+    let v = c.arrive-i.ensures in
+    let w = passes s.result a.tick a.places.now l.result l.ensures a.pool.now a.later c.first_error-checked.ensures c.in_default.is v.found v.places v.renewal in
+    joined-ends w.none (long_joins a.alias a.tick a.header a.payload.now a.pool.now a.places.now _ w.ok w.left.places w.left.renewal c.if-payload-gt8.true)
+
+pub returns-then-payload-gt8-clause-aging : goal.returns-then-payload-gt8-clause-aging
+returns-then-payload-gt8-clause-aging c = join-aging
+
+pub returns-then-payload-gt8-clause-source : goal.returns-then-payload-gt8-clause-source
+returns-then-payload-gt8-clause-source c = join-one-source
+
+pub join_sound-requires : goal.join_sound-requires
+join_sound-requires c =
+    let a = c.args in
+    let s = c.source_of-source in
+    let l = c.look_up-looked in
+    let v = c.arrive-i.ensures in
+    let w = passes s.result a.tick a.places.now l.result l.ensures a.pool.now a.later c.first_error-checked.ensures c.in_default.is v.found v.places v.renewal in (
+      record { pool = search rules; payload = search rules },
+      mid_sound a.alias a.tick a.header a.payload.now a.pool.now a.places.now _ w.ok w.left.places w.left.renewal,
+      mid_place a.alias a.tick a.header a.payload.now a.pool.now a.places.now _ w.ok w.left.places w.left.renewal s.result c.arrive-i.result w.left.found,
+    )
+
+pub returns-clause-ends : goal.returns-clause-ends
+returns-clause-ends c =
+    let a = c.args in
+    let s = c.source_of-source in
+    let l = c.look_up-looked in
+    let v = c.arrive-i.ensures in
+    let w = passes s.result a.tick a.places.now l.result l.ensures a.pool.now a.later c.first_error-checked.ensures c.in_default.is v.found v.places v.renewal in
+    let role = c.role_of-role in
+    joined-ends w.none
+    (sound-joins a.alias a.tick a.header a.payload.now a.pool.now a.places.now _ w.ok w.left.places w.left.renewal role.result s.result
+    c.join_sound.result _ _ (search rules) role.ensures s.ensures.0 c.join_sound.ensures.joins)
+
+pub returns-clause-lies : goal.returns-clause-lies
+returns-clause-lies c =
+    let a = c.args in
+    let s = c.source_of-source in
+    let l = c.look_up-looked in
+    let v = c.arrive-i.ensures in
+    let w = passes s.result a.tick a.places.now l.result l.ensures a.pool.now a.later c.first_error-checked.ensures c.in_default.is v.found v.places v.renewal in
+    rw (← c.role_of-role.ensures, ← s.ensures.0, ← w.left.found) c.join_sound.ensures.lies
+
+pub returns-clause-aging : goal.returns-clause-aging
+returns-clause-aging c = join-aging
+
+pub returns-clause-source : goal.returns-clause-source
+returns-clause-source c = join-one-source
