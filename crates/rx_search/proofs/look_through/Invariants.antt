@@ -1,5 +1,5 @@
--- The invariant of `rx_search::look_through`: B7 lets the first i places pass, `found` is what is found among them, and `due` says
--- whether one of them is due.
+-- The invariant of `rx_search::look_through`: B7 lets the first i places pass, `found` is what is found among them, and
+-- `due` says whether one of them is due.
 -- Assumes nothing.
 use mathlib.Core.Path.{◌≡◌}
 use Prim.Native.Nat.{◌-◌}
