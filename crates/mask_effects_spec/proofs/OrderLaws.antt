@@ -20,7 +20,7 @@ use Rattle.exec_spec.specs.Performing.{perform}
 use Rattle.exec_spec.specs.Handling.{Fixed, Contents, contents, answer_reading, handle}
 use Rattle.mask_combine.specs.Combining.{untouched, together, keeps_all, NoCommonBit}
 use Rattle.mask_combine.proofs.ListLaws.{add_up}
-use Rattle.mask_effects_spec.specs.Effects.{request_writes, reading_writes, written_by, is_pairs, is_write, is_accepted_write, effect_of, effect_of_all, contents_after_all, Content}
+use Rattle.mask_effects_spec.specs.Effects.{request_writes, reading_writes, written_by, is_pairs, is_write, effect_of, effect_of_all, contents_after_all, Content}
 use Rattle.mask_effects_spec.specs.AnyOrder.{Apart, TwoWrites, Interleaved, none, left, right, results_of, AllApart, Interleaves, WritesAddUp}
 use Rattle.mask_effects_spec.proofs.EffectLaws.{one-effect, all-effect, all-do, all-joined, adds_up_lem, writes, accepted-writes}
 
