@@ -7,7 +7,7 @@ use mathlib.Core.List.{List}
 use native.Mathlib.Omega.{arith}
 use lib.ListN.{length}
 use borrow.Author.Tests.{le-ltb}
-use Rattle.call_error.specs.CallErrors.{or_else, unless_failed, description_check}
+use Rattle.call_error.specs.CallErrors.{or_else, unless_failed}
 use Rattle.call_error.specs.declared.CallError.{CallError}
 use Rattle.call_error.specs.declared.Checked.{Checked}
 use Rattle.call_error.specs.declared.Checked.TheVariants.{Passed, Failed}
@@ -16,8 +16,8 @@ use Rattle.rx_place_spec.specs.State.{State}
 use Rattle.rx_spec.specs.Reception.{sound}
 use Rattle.rx_place_spec.specs.Ticks.{tick_at}
 use Rattle.rx_spec.specs.Times.{frame_input, lone_tick}
-use Rattle.rx_spec.specs.Order.{FrameResult, frame_result, caller_error, answer_event, handle_frame, handle_tick, handle_input, is_caller_error}
-use Rattle.rx_spec.specs.Books.{Event, ignored, no_answer, refuse, finish}
+use Rattle.rx_spec.specs.Order.{FrameResult, frame_result, caller_error, handle_frame, handle_tick, handle_input, is_caller_error}
+use Rattle.rx_spec.specs.Books.{ignored, no_answer, refuse, finish}
 use Rattle.rx_spec.proofs.Order.{order}
 use Rattle.rx_spec.proofs.InputLaws.{input-unrefused}
 use Rattle.rx_source_spec.proofs.Aging.{true-ages}
