@@ -9,14 +9,14 @@ use cmd_fields::Form;
 
 // A text: none, or its characters from an index on, without the zero byte that ends it. An empty text has none of them,
 // and is a text.
-#[derive(Drop)]
+#[derive(Clone, Copy)]
 pub enum TextIn {
     NoText,
     TextAt { start: usize, length: usize },
 }
 
 // The lowest space of the options, with the name behind it.
-#[derive(Drop)]
+#[derive(Clone, Copy)]
 pub enum LowestIn {
     NoLowest,
     LowestSpace { space: u8, name: TextIn },
