@@ -2,10 +2,8 @@
 -- Assumes nothing.
 use mathlib.Core.Path.{◌≡◌}
 use Rattle.buffer.proofs.LeastLaws.{bool_back, two_back, four_back, eight-back}
-use Rattle.tool_result_spec.specs.Layout.{range_bytes, options_bytes, information_bytes, reply_fields_bytes, range_in, options_in, information_in, reply_in}
+use Rattle.tool_result_spec.specs.Layout.{range_bytes, reply_fields_bytes, range_in, reply_in}
 use Rattle.tool_result_spec.specs.declared.ByteRange.{ByteRange}
-use Rattle.tool_result_spec.specs.declared.OptionsFields.{OptionsFields}
-use Rattle.tool_result_spec.specs.declared.InformationFields.{InformationFields}
 use Rattle.tool_result_spec.specs.declared.ReplyFields.{ReplyFields}
 
 range_back : (b : ByteRange) → range_in (range_bytes b) ≡ b

@@ -3,7 +3,6 @@
 // whether it is given. The code is in `tool_result`.
 #![tactic(auto)]
 
-
 // A command that was written: the number of W1 or W2 and no length, or 0 and the command's length.
 #[repr(C)]
 #[derive(Drop)]
@@ -23,7 +22,7 @@ pub struct Acknowledged {
 
 // Bytes in what was lent: whether there are such bytes, where they start, and how many they are.
 #[repr(C)]
-#[derive(Drop)]
+#[derive(Clone, Copy)]
 pub struct ByteRange {
     pub given: bool,
     pub start: usize,
@@ -32,7 +31,7 @@ pub struct ByteRange {
 
 // Rejected: 3 for W3, or 0, the code and further bytes.
 #[repr(C)]
-#[derive(Drop)]
+#[derive(Clone, Copy)]
 pub struct RejectionFields {
     pub refusal: u32,
     pub code: u16,
@@ -41,7 +40,7 @@ pub struct RejectionFields {
 
 // The options.
 #[repr(C)]
-#[derive(Drop)]
+#[derive(Clone, Copy)]
 pub struct OptionsFields {
     pub commands: u16,
     pub write_lengths: u8,
@@ -52,7 +51,7 @@ pub struct OptionsFields {
 
 // The information on a space.
 #[repr(C)]
-#[derive(Drop)]
+#[derive(Clone, Copy)]
 pub struct InformationFields {
     pub highest_address: u32,
     pub lowest_address: u32,
@@ -66,7 +65,7 @@ pub struct InformationFields {
 // or the lock's ID stand. `form` says how the space is named: 0 by byte 6, and 1, 2, 3 by the low two bits of the
 // command.
 #[repr(C)]
-#[derive(Drop)]
+#[derive(Clone, Copy)]
 pub struct ReplyFields {
     pub kind: u32,
     pub address: u32,
