@@ -7,7 +7,7 @@ ghost use Rattle.can_frame.specs.Frame.{source_of, kind_of_frame, role_of};
 // A frame to be sent or one that was read: its data are the first `len` of the bytes. The crate `can_frame_bytes` says
 // how it lies in 16 bytes.
 #[repr(C)]
-#[derive(Drop)]
+#[derive(Clone, Copy)]
 pub struct Frame {
     pub header: u32,
     pub len: u32,

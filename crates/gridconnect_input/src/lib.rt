@@ -12,7 +12,7 @@ use gridconnect_parse::Parsed;
 // bytes are zeros in what is returned and are not read: with them a carry has 32 bytes, which are moved as two halves
 // that do not overlap.
 #[repr(C)]
-#[derive(Drop)]
+#[derive(Clone, Copy)]
 pub struct Carry {
     pub len: u8,
     pub text: [u8; 29],
@@ -22,7 +22,7 @@ pub struct Carry {
 // A step through a chunk: the line that it completes, if any, the carry afterwards, and the index up to which the chunk
 // was read.
 #[repr(C)]
-#[derive(Drop)]
+#[derive(Clone, Copy)]
 pub struct Next {
     pub complete: bool,
     pub parsed: Parsed,

@@ -9,7 +9,7 @@ use can_frame::Frame;
 
 // What a line stands for: a bad one has an all-zero frame.
 #[repr(C)]
-#[derive(Drop)]
+#[derive(Clone, Copy)]
 pub struct Parsed {
     pub good: bool,
     pub frame: Frame,
