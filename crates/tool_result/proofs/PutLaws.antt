@@ -4,7 +4,7 @@ use Prim.Native.Nat.{ℕ, ◌+◌}
 use mathlib.Core.Path.{◌≡◌, ap, ◌∙◌}
 use mathlib.Core.List.{List, ◌++◌, append-nil}
 use native.Mathlib.Omega.{arith}
-use lib.ListN.{length, length-append, drop, drop_of_length-le}
+use lib.ListN.{length, length-append, drop_of_length-le}
 use Rattle.buffer.specs.Buffer.{placed}
 use Rattle.buffer.proofs.Laws.{put_two}
 
