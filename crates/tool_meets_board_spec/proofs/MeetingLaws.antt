@@ -1,6 +1,6 @@
 -- The two halves meet.
 -- Assumes nothing.
-use Prim.Native.Nat.{ℕ, ◌+◌, ◌-◌, ◌*◌, ◌/◌, ◌%◌, ◌≤◌}
+use Prim.Native.Nat.{ℕ, ◌+◌, ◌*◌, ◌/◌, ◌%◌, ◌≤◌}
 use mathlib.Core.Path.{◌≡◌, refl, sym}
 use mathlib.Core.Bool.{true, false, cond}
 use mathlib.Core.List.{List, [], ◌∷◌, ◌++◌}
@@ -21,7 +21,6 @@ use Rattle.tool_read_ack.specs.declared.RejectionIn.TheVariants.{Rejection}
 use Rattle.cmd_fields.specs.Commands as asked
 use Rattle.cmd_fields.specs.Commands.{Request, Names}
 use Rattle.cmd_fields.specs.declared.Form.{Form}
-use Rattle.cmd_decode.specs.Decoding.{request}
 use Rattle.cmd_decode.proofs.Laws.{Allowed, allowed}
 use Rattle.space_table.specs.declared.Space.{Space}
 use Rattle.space_lookup.specs.Description.{size_of, store_of}
