@@ -1,14 +1,14 @@
 -- Laws of a carry in its bytes: it is found again in them, its text as it is copied, and that a step reads no more than the beginning.
 -- Assumes nothing.
 use Prim.Native.Nat.{ℕ, ◌-◌, ◌≤◌}
-use mathlib.Core.Path.{◌≡◌, refl, sym, ap, ◌∙◌}
+use mathlib.Core.Path.{◌≡◌, refl, sym, ◌∙◌}
 use mathlib.Core.List.{List, [], ◌∷◌, ◌++◌, append-nil}
 use native.Mathlib.Omega.{arith}
-use lib.ListN.{length, take, drop, get_or, replicate, length-append, length-replicate, length-take, length-drop, drop_of_length-le}
+use lib.ListN.{length, take, drop, get_or, replicate, length-append, length-replicate, length-take, length-drop}
 use lib.Seq.{take_at, length-take-le}
 use Rattle.buffer.specs.Buffer.{put_at, placed}
 use Rattle.buffer.proofs.Laws.{placed-fits}
-use Rattle.gridconnect_input.specs.Input.{unfinished, begun_of, cut_off, carry_with, carry_of, next_of, last_of}
+use Rattle.gridconnect_input.specs.Input.{unfinished, cut_off, carry_of, next_of, last_of}
 use Rattle.gridconnect_input.specs.declared.Carry.{Carry}
 use Rattle.capi_lines.specs.Lines.{carry_bytes, carry_in, SameBeginning, CarryAgain}
 
