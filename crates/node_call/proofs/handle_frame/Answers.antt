@@ -1,0 +1,64 @@
+-- `handle_frame` meets its contract, and demand 3 holds of it.
+-- Assumes nothing.
+use mathlib.Core.Path.{refl, sym, ◌∙◌}
+use borrow.Author.Rules.{rules}
+use Rattle.can_frame.specs.Frame.{can_frame}
+use Rattle.space_table.specs.Table.{spaces_in}
+use Rattle.rx_place_spec.specs.PlaceBytes.{state_in}
+use Rattle.rx_place_spec.proofs.ByteLaws.{renewed-same}
+use Rattle.exec_spec.specs.Handling.{fixed}
+use Rattle.exec_spec.specs.LentBoard.{contents_in}
+use Rattle.node_spec.proofs.DatagramLaws.{by-sizes, passed-buffer}
+use Rattle.node_spec.specs.FrameCall.{frame_call}
+use Rattle.rx_join_spec.proofs.CheckLaws.{ends-inside}
+use Rattle.node_spec.proofs.CallLaws.{call-refused, earlier_fails, node_theorems}
+use Rattle.node_call.proofs.FrameLaws.{call-joined, call-keeps, call-small, call-changes}
+use Rattle.node_call.proofs.handle_frame.Goals as goal
+
+pub returns-in-Failed-clause-ends : goal.returns-in-Failed-clause-ends
+returns-in-Failed-clause-ends c =
+    let a = c.args in
+    let x = fixed a.alias a.write_lengths (spaces_in a.spaces.now) a.flash.now in
+    let w = contents_in a.memory.now a.registers.now in
+    let st = state_in a.places.now a.pool.now in
+    let g = sym (by-sizes x w a.reply.now c.check_call-checked.ensures.first) ∙ c.in-Failed.is in
+    let e = call-refused x a.reply.now a.tick st w (can_frame a.header a.payload.now) (earlier_fails x a.reply.now st w g) in
+    record {
+      answers = rw e (record { answer = refl; reply = refl; contents = refl; short = tt });
+      keeps = rw e (record { places = refl; renewal = renewed-same a.places.now; pool = refl });
+      small = tt;
+      changes = refl;
+    }
+
+pub returns-in-Failed-clause-theorems : goal.returns-in-Failed-clause-theorems
+returns-in-Failed-clause-theorems c = node_theorems _
+
+pub answer_outcome-requires : goal.answer_outcome-requires
+answer_outcome-requires c =
+    let a = c.args in
+    let x = fixed a.alias a.write_lengths (spaces_in a.spaces.now) a.flash.now in
+    let w = contents_in a.memory.now a.registers.now in
+    let g = sym (by-sizes x w a.reply.now c.check_call-checked.ensures.first) ∙ c.in_default.is in
+    (passed-buffer x w a.reply.now g, search rules, ends-inside c.join-outcome.ensures.ends)
+
+pub returns-clause-ends : goal.returns-clause-ends
+returns-clause-ends c =
+    let a = c.args in
+    let x = fixed a.alias a.write_lengths (spaces_in a.spaces.now) a.flash.now in
+    let w = contents_in a.memory.now a.registers.now in
+    let st = state_in a.places.now a.pool.now in
+    let f = can_frame a.header a.payload.now in
+    let g = sym (by-sizes x w a.reply.now c.check_call-checked.ensures.first) ∙ c.in_default.is in
+    let l = c.check_later-later.ensures x w in
+    let n = c.join-outcome.ensures.ends in
+    let call = frame_call x a.reply.now a.tick st w f in
+    let p = c.answer_outcome.ensures call.state in
+    record {
+      answers = rw (call-joined x a.reply.now a.tick a.places.now a.pool.now w f g l n) p;
+      keeps = call-keeps x a.reply.now a.tick a.places.now a.pool.now w f g l n;
+      small = call-small x a.reply.now a.tick a.places.now a.pool.now w f g l n p;
+      changes = call-changes x a.reply.now a.tick a.places.now a.pool.now w f g l n p;
+    }
+
+pub returns-clause-theorems : goal.returns-clause-theorems
+returns-clause-theorems c = node_theorems _
