@@ -1,21 +1,20 @@
 -- Document 01's proved cases, and the spaces of the board's table: computed from the definitions.
 -- Assumes nothing.
 use mathlib.Core.Path.{◌≡◌, refl, ap, ◌∙◌}
-use mathlib.Core.List.{List, map}
+use mathlib.Core.List.{List}
 use Prim.Native.Nat.{ℕ}
-use lib.ListN.{length, replicate}
+use lib.ListN.{replicate}
 use Rattle.space_lookup.specs.Description.{find_space}
 use Rattle.space_table.specs.Table.{row_at, spaces_from, spaces_in}
 use Rattle.call_error.specs.CallErrors.{among, spaces_check, description_check}
-use Rattle.call_error.specs.declared.Checked.TheVariants.{Passed}
 use Rattle.cmd_fields.specs.Commands.{kind_of_command, head_bytes, rest_of}
 use Rattle.cmd_decode.specs.Decoding.{decode_read, decode_write, decode_masked, decode_kind, decode}
 use Rattle.buffer.specs.Buffer.{put_at, placed}
 use Rattle.reply_datagram.specs.Inquiry.{information_reply}
 use Rattle.exec_spec.specs.Access.{read_result, write_result, memory_after}
-use Rattle.exec_spec.specs.Handling.{Outcome, outcome, perform, handle}
-use Rattle.demo_board.specs.Board.{row_of, demo_spaces, demo_flash, demo_memory, demo_fixed, demo_contents}
-use Rattle.demo_board.specs.Cases.{cases, ProvedCases}
+use Rattle.exec_spec.specs.Handling.{perform, handle}
+use Rattle.demo_board.specs.Board.{row_of, demo_spaces}
+use Rattle.demo_board.specs.Cases.{ProvedCases}
 
 pub proved_cases : ProvedCases
 unfolding description_check spaces_check among find_space kind_of_command rest_of decode_read decode_write decode_masked decode_kind decode put_at placed head_bytes information_reply read_result write_result memory_after perform handle

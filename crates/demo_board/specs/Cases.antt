@@ -1,10 +1,10 @@
 -- Document 01, "Whole datagrams, each on a fresh board; † are the proved ones": one list, and one statement about the
 -- definitions.
-use Rattle.std.specs.Prelude.{ℕ, ◌≡◌, List, [], ◌∷◌, ◌++◌, map, length, replicate}
+use Rattle.std.specs.Prelude.{ℕ, ◌≡◌, List, [], ◌∷◌, map, length, replicate}
 use Rattle.call_error.specs.CallErrors.{description_check}
 use Rattle.call_error.specs.declared.Checked.TheVariants.{Passed}
 use Rattle.reply_answer.specs.Answers.{Result, datagram_rejected, received_ok_reply}
-use Rattle.exec_spec.specs.Handling.{Outcome, outcome, handle}
+use Rattle.exec_spec.specs.Handling.{outcome, handle}
 use Rattle.demo_board.specs.Board.{demo_alias, demo_spaces, demo_flash, demo_memory, demo_fixed, demo_contents}
 
 -- A datagram, and how it is answered.
