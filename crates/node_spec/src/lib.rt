@@ -6,7 +6,7 @@ use call_error::CallError;
 use reply_answer::Answer;
 
 // What comes of a whole datagram: an error of the caller, or an answer to send.
-#[derive(Drop)]
+#[derive(Clone, Copy)]
 pub enum Handled {
     Refused(CallError),
     Answered(Answer),
@@ -14,7 +14,7 @@ pub enum Handled {
 
 // What comes of a frame: an error of the caller; an ignored frame; a frame that is joined or swallowed and not
 // answered; a transport refusal, sent as Rejected with its code; or the answer to the datagram that the frame finishes.
-#[derive(Drop)]
+#[derive(Clone, Copy)]
 pub enum FrameAnswer {
     Refused(CallError),
     Ignored,

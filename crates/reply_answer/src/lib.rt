@@ -7,7 +7,7 @@ ghost use Rattle.reply_answer.specs.Answers.{received_ok_reply, Agrees};
 // The answer to a datagram: Rejected with a code; Received OK 0x00 to a write, which changed so many bytes of memory
 // from an index on; Received OK 0x00 to Update Complete; or Received OK 0x80 and a reply of that many bytes in the
 // buffer.
-#[derive(Drop)]
+#[derive(Clone, Copy)]
 pub enum Answer {
     Rejected(u16),
     Written(usize, usize),
