@@ -24,7 +24,6 @@ use Rattle.gridconnect_session_spec.specs.Turn.{Turn, answer_line, answer_with_r
 use Rattle.gridconnect_session_spec.specs.Session.{after_text, answer_lines}
 use Rattle.gridconnect_session_spec.proofs.SessionLaws.{lines-append, one_line}
 use Rattle.gridconnect_session.specs.Chunks.{ChunkAnswered, at_end}
-use Rattle.gridconnect_session.specs.declared.Progress.{Progress}
 
 -- the line of a step: one that is complete is answered, and none is not
 module _ (x : Fixed) (st : State) (c : Contents) (next : Next) (at : ℕ) (out : List ℕ) (room : at + 290 ≤ length out) where
