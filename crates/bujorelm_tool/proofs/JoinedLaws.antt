@@ -8,7 +8,6 @@ use Rattle.buffer.specs.LittleEndian.{number_in}
 use Rattle.buffer.proofs.Choice.{clash}
 use Rattle.buffer.proofs.LeastLaws.{two_back, eight-back}
 use Rattle.call_error.specs.CallErrors.{or_else}
-use Rattle.call_error.specs.declared.CallError.{CallError}
 use Rattle.call_error.specs.declared.CallError.TheVariants.{B7BadReceptionState}
 use Rattle.call_error.specs.declared.Checked.{Checked}
 use Rattle.call_error.specs.declared.Checked.TheVariants.{Passed, Failed}
