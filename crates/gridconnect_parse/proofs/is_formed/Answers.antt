@@ -4,6 +4,7 @@ use Prim.Native.Nat.{ℕ, ◌-◌, ◌%◌, ◌≤◌, ◌<◌}
 use mathlib.Core.Path.{◌≡◌, refl, sym, ◌∙◌}
 use mathlib.Core.Bool.{Bool, true, false, ◌&&◌}
 use mathlib.Core.List.{List}
+use native.Mathlib.Omega.{arith}
 use borrow.Author.Tests.{le-leb, lt-leb, eq-eqb, ne_eqb}
 use lib.Bits.{bit_and, and_mask}
 use lib.Dec.{eqb}
@@ -48,22 +49,22 @@ pub returns-then-n-gt28 : goal.returns-then-n-gt28
 returns-then-n-gt28 c = long c.args.line.now c.if-n-lt12.false c.if-n-gt28.true
 
 pub returns-then-n-ne0 : goal.returns-then-n-ne0
-returns-then-n-ne0 c = odd c.args.line.now c.if-n-lt12.false c.if-n-gt28.false c.if-n-ne0.true
+returns-then-n-ne0 c = odd c.args.line.now c.if-n-lt12.false (omega arith) c.if-n-ne0.true
 
 pub returns-then-line-ne58 : goal.returns-then-line-ne58
 returns-then-line-ne58 c = stop _ _ (ne_eqb _ 58 c.if-line-ne58.true)
-    ∙ sized c.args.line.now c.if-n-lt12.false c.if-n-gt28.false c.if-n-ne0.false
+    ∙ sized c.args.line.now c.if-n-lt12.false (omega arith) c.if-n-ne0.false
 
 pub returns-then-line-ne88 : goal.returns-then-line-ne88
 returns-then-line-ne88 c = pass _ (eq-eqb _ 58 c.if-line-ne58.false) (stop _ _ (ne_eqb _ 88 c.if-line-ne88.true))
-    ∙ sized c.args.line.now c.if-n-lt12.false c.if-n-gt28.false c.if-n-ne0.false
+    ∙ sized c.args.line.now c.if-n-lt12.false (omega arith) c.if-n-ne0.false
 
 pub returns-then-line-ne78 : goal.returns-then-line-ne78
 returns-then-line-ne78 c =
     pass _ (eq-eqb _ 58 c.if-line-ne58.false) (pass _ (eq-eqb _ 88 c.if-line-ne88.false) (stop _ _ (ne_eqb _ 78 c.if-line-ne78.true)))
-    ∙ sized c.args.line.now c.if-n-lt12.false c.if-n-gt28.false c.if-n-ne0.false
+    ∙ sized c.args.line.now c.if-n-lt12.false (omega arith) c.if-n-ne0.false
 
 pub returns : goal.returns
 returns c =
     pass _ (eq-eqb _ 58 c.if-line-ne58.false) (pass _ (eq-eqb _ 88 c.if-line-ne88.false) (pass _ (eq-eqb _ 78 c.if-line-ne78.false) refl))
-    ∙ sized c.args.line.now c.if-n-lt12.false c.if-n-gt28.false c.if-n-ne0.false
+    ∙ sized c.args.line.now c.if-n-lt12.false (omega arith) c.if-n-ne0.false

@@ -5,6 +5,7 @@ use mathlib.Core.Path.{◌≡◌, refl, sym, ◌∙◌}
 use mathlib.Core.Bool.{Bool, true, false, cond}
 use mathlib.Core.List.{List, []}
 use native.Mathlib.Nat.{add-zero}
+use native.Mathlib.Omega.{arith}
 use borrow.Author.Rules.{rules}
 use lib.Dec.{leb}
 use lib.ListN.{length}
@@ -33,10 +34,10 @@ pub returns-then-not-has_room : goal.returns-then-not-has_room
 returns-then-not-has_room c =
     let f = c.args.frame in
     let full : length f.bytes ≡ 8 = search rules in
-    not-printed _ _ _ (rw (← text-length f c.if-frame-gt8.false full) (sym c.has_room.ensures ∙ c.if-not-has_room.true))
+    not-printed _ _ _ (rw (← text-length f (omega arith) full) (sym c.has_room.ensures ∙ c.if-not-has_room.true))
 
 pub returns : goal.returns
 returns c =
     let f = c.args.frame in
     let full : length f.bytes ≡ 8 = search rules in
-    printed _ _ _ _ (text-length f c.if-frame-gt8.false full) (sym c.has_room.ensures ∙ c.if-not-has_room.false) c.put_line.ensures
+    printed _ _ _ _ (text-length f (omega arith) full) (sym c.has_room.ensures ∙ c.if-not-has_room.false) c.put_line.ensures
