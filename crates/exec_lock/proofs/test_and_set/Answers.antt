@@ -9,4 +9,4 @@ returns-then-id-eq6 c =
     six-sent _ _ (omega arith) c.reserved.ensures
 
 pub returns : goal.returns
-returns c = let a = c.args in other_length a.held a.id.now (λ e. omega (arith, c.if-id-eq6.false))
+returns c = let a = c.args in other_length a.held a.id.now (λ e. omega arith)

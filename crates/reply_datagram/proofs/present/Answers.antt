@@ -1,5 +1,6 @@
 -- `present` meets its contract.
 -- Assumes nothing.
+use native.Mathlib.Omega.{arith}
 use Rattle.reply_datagram.proofs.Laws.{information-zero, information-lowest}
 use Rattle.reply_datagram.proofs.present.Goals as goal
 
@@ -13,4 +14,4 @@ pub returns : goal.returns
 returns c =
     let a = c.args in
     let f = c.access_flag-flag in
-    rw (← information-lowest a.number f.result a.space c.bytes-h.ensures f.ensures.0 c.if-space-eq0.false c.bytes-l.ensures) c.whole-2.ensures
+    rw (← information-lowest a.number f.result a.space c.bytes-h.ensures f.ensures.0 (λ e. omega arith) c.bytes-l.ensures) c.whole-2.ensures

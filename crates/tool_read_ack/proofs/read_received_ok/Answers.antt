@@ -13,4 +13,4 @@ returns-then-content-gt1 c = rw (lt-leb (length c.args.content.now) 1 c.if-conte
 pub returns : goal.returns
 unfolding read_received
 returns c =
-    rw (le-leb (length c.args.content.now) 1 (omega (arith, c.if-content-gt1.false)), ← c.byte_in-flags.ensures)
+    rw (le-leb (length c.args.content.now) 1 (omega arith), ← c.byte_in-flags.ensures)

@@ -14,4 +14,4 @@ pub returns : goal.returns
 unfolding read_rejection
 returns c =
     let content = c.args.content.now in
-    rw (c.two_bytes.ensures, c.byte_in-2.ensures, c.byte_in.ensures, c.code_length-start.ensures.0, le-leb (length content) 66 (omega (arith, c.if-content-gt66.false)))
+    rw (c.two_bytes.ensures, c.byte_in-2.ensures, c.byte_in.ensures, c.code_length-start.ensures.0, le-leb (length content) 66 (omega arith))
