@@ -12,11 +12,11 @@ use lib.Dec.{eqb, ltb}
 use lib.ListN.{length, drop, get_or, drop_of_length-le}
 use lib.Seq.{drop-cons}
 use borrow.Author.Tests.{eq-eqb, ne_eqb}
-use Rattle.buffer.proofs.Choice.{cond-elim}
+use Rattle.buffer.proofs.Choice.{cond-true, cond-elim}
 use Rattle.space_table.specs.Table.{no_space, row_at, space_at, spaces_from, spaces_in}
 use Rattle.space_table.proofs.TableLaws.{spaces-length, space-in, table_next, table_done}
 use Rattle.space_table.specs.declared.Space.{Space}
-use Rattle.call_error.specs.CallErrors.{passes, or_else, among, space_numbers, window_check, spaces_check}
+use Rattle.call_error.specs.CallErrors.{passes, or_else, among, space_numbers, window_check, spaces_check, description_check}
 use Rattle.call_error.specs.declared.CallError.TheVariants.{B5NumberUsedTwice}
 use Rattle.call_error.specs.declared.Checked.{Checked}
 use Rattle.call_error.specs.declared.Checked.TheVariants.{Passed, Failed}
@@ -142,3 +142,8 @@ buffer-nowhere reply = cond-elim Unplaced (ltb reply 72) (λ q. refl) (λ q. ref
 pub call-positioned : (alias : ℕ) (l : List Space) (f m reply : ℕ) {checked : Checked} → checked ≡ call_check alias l f m reply
     → (checked ≡ call_check alias l f m reply) × Positioned alias f m l checked
 call-positioned alias l f m reply e = (e, subst (Positioned alias f m l) (sym e) (positioned alias f m l (buffer_check reply) (buffer-nowhere reply)))
+
+-- what is found behind a description without an error has no position of its own, whatever it is
+pub positioned_behind : (alias : ℕ) (l : List Space) (f m : ℕ) (other : Checked) → Unplaced other → passes (description_check alias l f m) ≡ true
+    → Positioned alias f m l other
+positioned_behind alias l f m other nowhere good = subst (Positioned alias f m l) (cond-true _ _ _ good) (positioned alias f m l other nowhere)

@@ -28,6 +28,7 @@ fn check_description(alias: u16, spaces: &[u8], flash_len: usize, memory_len: us
 }
 
 // The first of B11 to B14 and B2 to B6 that applies, and what its position says.
+#[tactic(auto, using(crate::proofs::Laws::positioned_behind))]
 pub fn check_call(
     alias: u16,
     spaces: &[u8],
