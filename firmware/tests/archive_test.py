@@ -194,6 +194,8 @@ def test_other_kits():
         os.makedirs(os.path.join(copy, "firmware"), exist_ok=True)
         os.makedirs(os.path.join(copy, "crates", "bujorelm"), exist_ok=True)
         shutil.copy(os.path.join(ROOT, "firmware", "build"), os.path.join(copy, "firmware", "build"))
+        os.makedirs(os.path.join(copy, "host"), exist_ok=True)
+        shutil.copy(os.path.join(ROOT, "host", "module"), os.path.join(copy, "host", "module"))
         with open(os.path.join(copy, "crates.txt"), "w", encoding="utf-8"):
             pass
         environment = dict(os.environ, PATH=folder + ":" + os.environ["PATH"])

@@ -12,7 +12,7 @@ import re
 import sys
 
 EDIT = re.compile(r"([a-z][a-z0-9_]*)/([a-z0-9_]+)")
-DEFINITION = re.compile(r"([a-z][a-z0-9_]*): ([A-Z][A-Za-z]*)(?:\.([A-Za-z0-9]+))?")
+DEFINITION = re.compile(r"([a-z][a-z0-9_]*): ([A-Z][A-Za-z]*)(?:\.([A-Za-z0-9_]+))?")
 FUNCTION = re.compile(r"([a-z][a-z0-9_]*)::(?:[a-z_]+::)*([A-Za-z_0-9]+)")
 NAME = re.compile(r"`([^`]+)`")
 CLAUSES = re.compile(r"clauses? (`[a-z_]+`(?:, `[a-z_]+`)*)")

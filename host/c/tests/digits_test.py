@@ -3,7 +3,7 @@
 
 Two looks at every function on the way of a digit, from a line to a frame and back. In the library's archive, where most are inlined: no
 instruction that multiplies or divides, and no call of anything outside the archive, but for the two functions that the line splitter calls.
-In what the compiler is given for them, which is the same for every machine (`rt mir`): no product, quotient or remainder; and no number that
+In the module that the compiler is given, before it optimises anything (host/module): no product, quotient or remainder; and no number that
 becomes one of 64 bits, or comes from one, but a length, which is an index.
 
 Both looks are first held to what they have to find: functions with a product, a quotient, a routine or a wide number planted in them.
@@ -23,8 +23,11 @@ ENTRIES = {
     "bujorelm_next_line": {"memcpy", "memset"},
     "bujorelm_last_line": {"memcpy", "memset"},
 }
-# Crates that reach every function on the way of a digit, and some that have to be among these.
-CRATES = ("gridconnect_lines", "gridconnect_frames", "capi_lines")
+# A library and a program, the functions in each from which every function on the way of a digit is reached, and some that have to be among these.
+MODULES = {
+    "bujorelm": ("capi_lines::parse_line", "capi_lines::print_frame", "capi_lines::next_line", "capi_lines::last_line"),
+    "demo": ("gridconnect_lines::next_line", "gridconnect_lines::last_line", "gridconnect_frames::print_frames", "gridconnect_frames::has_room"),
+}
 REACHED = {
     *("hex_digit::value_of", "hex_digit::digits_of", "hex_read::read_number", "hex_read::read_bytes"),
     *("hex_print::put_number", "hex_print::put_digits", "buffer::bytes", "buffer::number"),
@@ -44,7 +47,14 @@ RELOCATION = re.compile(r"^\s*[0-9a-f]+: R_\S+\s+(\S+?)(?:[-+]0x[0-9a-f]+)?$")
 MULTIPLIES = re.compile(r"mul|div|madd|fm|fnm|dpp|dpb|dpw")
 LEAVES = re.compile(r"call|j[a-z]+$")
 
-OPERATIONS = {"add", "sub", "shl", "shr", "and", "or", "xor", "not", "eq", "ne", "lt", "le", "cast", "offset"}
+OPERATIONS = {
+    *("add", "sub", "shl", "lshr", "ashr", "and", "or", "xor", "icmp", "zext", "sext", "trunc", "getelementptr"),
+    *("alloca", "load", "store", "call", "br", "switch", "select", "phi", "ret", "unreachable", "insertvalue", "extractvalue"),
+}
+DEFINED = re.compile(r'^define .*?@("[^"]+"|[\w.$]+)\(')
+CALLED = re.compile(r'@("[^"]+"|[\w.$]+)\(')
+OPERATION = re.compile(r"^\s+(?:%\S+ = )?(?:tail |musttail |notail )?([a-z]\w*)(?:\s|$)(.*)$")
+WIDENS = re.compile(r"^(?:zext|sext) (?:nneg )?i\d+ \S+ to i64\b|^trunc (?:nuw |nsw )*i64 \S+ to i\d+\b")
 
 
 def functions_of(archive):
@@ -85,59 +95,45 @@ def faults_of_code(functions, entry, allowed):
     return faults
 
 
-def read_mir(text):
-    """The functions that `rt mir` prints, each as its name and what stands in its brackets."""
-    stack = [[]]
-    for token in re.findall(r'[()]|"[^"]*"|[^\s()]+', text):
-        if token == "(":
-            stack.append([])
-        elif token == ")":
-            inner = stack.pop()
-            stack[-1].append(inner)
-        else:
-            stack[-1].append(token)
-    return {node[1].strip('"'): node for node in nodes_of(stack[0]) if node[:1] == ["fn-def"]}
+def read_module(text):
+    """The functions of a module, each as its name and its lines."""
+    functions = {}
+    lines = None
+    for line in text.splitlines():
+        if found := DEFINED.match(line):
+            lines = functions.setdefault(found[1].strip('"'), [])
+        elif line == "}":
+            lines = None
+        elif lines is not None and not line.lstrip().startswith(";"):
+            lines.append(line)
+    return functions
 
 
-def nodes_of(tree):
-    todo = [tree]
+def reached(functions, roots):
+    """The functions of a module that these call, and they themselves."""
+    seen = {}
+    todo = list(roots)
     while todo:
-        node = todo.pop()
-        yield node
-        todo += [inner for inner in node if isinstance(inner, list)]
+        name = todo.pop()
+        if name in seen or name not in functions:
+            continue
+        seen[name] = functions[name]
+        todo += [called.strip('"') for line in functions[name] for called in CALLED.findall(line)]
+    return seen
 
 
-def locals_of(function):
-    """The types of a function's locals, by number."""
-    listed = []
-    rest = function[2][4]
-    while rest != "lnil":
-        listed.append(rest[1][1])
-        rest = rest[2]
-    return listed
-
-
-def is_narrow(operand, types):
-    """Whether it is known that what is cast has fewer than 64 bits: of a field it is not."""
-    if operand[0] == "int":
-        return operand[1] != "64"
-    place = operand[1]
-    return place[2] == "lnil" and types[int(place[1])] in (["tyInt", "8"], ["tyInt", "16"], ["tyInt", "32"])
-
-
-def faults_of_mir(name, function):
+def faults_of_module(name, lines):
     """What is wrong with a function as the compiler is given it."""
     faults = []
     wide = 0
-    types = locals_of(function)
-    for node in nodes_of(function):
-        if node[:1] not in (["op1"], ["op2"]):
+    for line in lines:
+        found = OPERATION.match(line)
+        if not found or line.rstrip().endswith(":"):
             continue
-        operation = node[1] if isinstance(node[1], str) else node[1][0]
+        operation, rest = found[1], found[2]
         if operation not in OPERATIONS:
             faults.append(f"{name}: {operation}")
-        if operation == "cast":
-            wide += node[1][-1] == "64" or not is_narrow(node[2], types)
+        wide += WIDENS.match(f"{operation} {rest}") is not None
     if wide != LENGTHS.get(name, 0):
         faults.append(f"{name}: {wide} numbers become 64 bits wide or come from such")
     return faults
@@ -159,14 +155,38 @@ unsigned indirect(unsigned x) { return pointer(x) + 1; }
 __attribute__((noinline)) unsigned below(unsigned x, unsigned y) { return x * y + 1; }
 unsigned above(unsigned x, unsigned y) { return below(x, y) + 1; }
 """
-PLANTED_MIR = """
-(fn-def "sound" (fnItem 0 lnil 1 (lcons (local (tyInt 32) v) lnil) (op2 (shr unsigned) (copy (place 0 lnil)) (int 32 4))))
-(fn-def "product" (fnItem 0 lnil 1 (lcons (local (tyInt 32) v) lnil) (op2 (mul unsigned) (copy (place 0 lnil)) (int 32 16))))
-(fn-def "quotient" (fnItem 0 lnil 1 (lcons (local (tyInt 32) v) lnil) (op2 (div unsigned) (copy (place 0 lnil)) (int 32 16))))
-(fn-def "remainder" (fnItem 0 lnil 1 (lcons (local (tyInt 32) v) lnil) (op2 (rem unsigned) (copy (place 0 lnil)) (int 32 16))))
-(fn-def "widened" (fnItem 0 lnil 1 (lcons (local (tyInt 32) v) lnil) (op1 (cast unsigned unsigned 64) (copy (place 0 lnil)))))
-(fn-def "narrowed" (fnItem 0 lnil 1 (lcons (local (tyInt 64) v) lnil) (op1 (cast unsigned unsigned 32) (copy (place 0 lnil)))))
-(fn-def "of_a_field" (fnItem 0 lnil 1 (lcons (local tyPair v) lnil) (op1 (cast unsigned unsigned 32) (copy (place 0 (lcons (field 1) lnil))))))
+PLANTED_MODULE = """
+define i32 @sound(i32 %x) {
+start:
+  %a = shl i32 %x, 4
+  ret i32 %a
+}
+define internal noundef i32 @"planted::product"(i32 noundef %x) #0 {
+  %a = mul i32 %x, 16
+  ret i32 %a
+}
+define i32 @quotient(i32 %x) {
+  %a = udiv i32 %x, 16
+  ret i32 %a
+}
+define i32 @remainder(i32 %x) {
+  %a = urem i32 %x, 16
+  ret i32 %a
+}
+define i64 @widened(i32 %x) {
+  %a = zext i32 %x to i64
+  ret i64 %a
+}
+define i32 @narrowed(i64 %x) {
+  %a = trunc i64 %x to i32
+  ret i32 %a
+}
+define i32 @of_a_field(ptr %x) {
+  %a = getelementptr i8, ptr %x, i64 8
+  %b = load i64, ptr %a, align 8
+  %c = trunc i64 %b to i32
+  ret i32 %c
+}
 """
 
 
@@ -176,11 +196,11 @@ def faults_of_the_looks(out):
     source.write_text(PLANTED, encoding="utf-8")
     subprocess.run([os.environ.get("CC", "cc"), "-O2", "-ffunction-sections", "-c", str(source), "-o", str(compiled)], check=True)
     functions = functions_of(compiled)
-    mir = read_mir(PLANTED_MIR)
+    module = read_module(PLANTED_MODULE)
     found = {name: faults_of_code(functions, name, set()) for name in functions}
-    found_in_mir = {name: faults_of_mir(name, mir[name]) for name in mir}
-    wrong = [f"planted: {len(found)} and {len(found_in_mir)} functions"] if (len(found), len(found_in_mir)) != (11, 7) else []
-    for faults in (found, found_in_mir):
+    found_in_module = {name: faults_of_module(name, module[name]) for name in module}
+    wrong = [f"planted: {len(found)} and {len(found_in_module)} functions"] if (len(found), len(found_in_module)) != (11, 7) else []
+    for faults in (found, found_in_module):
         wrong += [f"planted {name}: {faults[name]}" for name in faults if bool(faults[name]) == (name == "sound")]
     return wrong
 
@@ -192,10 +212,12 @@ def main():
     for entry, allowed in ENTRIES.items():
         wrong += faults_of_code(compiled, entry, allowed)
     given = {}
-    for crate in CRATES:
-        given |= read_mir(subprocess.run(["rt", "mir", crate], cwd=root, capture_output=True, text=True, check=True).stdout)
+    for crate, roots in MODULES.items():
+        module = out / f"{crate}.ll"
+        subprocess.run([root / "host" / "module", crate, module], check=True)
+        given |= reached(read_module(module.read_text(encoding="utf-8")), roots)
     for name, function in given.items():
-        wrong += faults_of_mir(name, function)
+        wrong += faults_of_module(name, function)
     wanted = REACHED | LENGTHS.keys()
     wrong += [f"{name} is not among the functions that were looked at" for name in sorted(wanted - given.keys())]
     for fault in wrong:
