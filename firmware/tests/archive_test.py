@@ -173,7 +173,7 @@ OTHER_KITS = (
     ("lib", 'cd "{out}" && "$compiler" -x ir -c other.bc -o other.o', "has no line '^define .*@bujorelm_handle_frame('"),
     ("lib", 'cd "{out}" && "$compiler" -x ir -c other.bc -o other.o && "$compiler" -x ir -c other.bc -o other.o', "gave its compiler 2 modules"),
     ("lib", 'cd "{out}" && "$compiler" -x ir -c strange.bc -o other.o', "have attributes that are not known here"),
-    ("lib", "echo a proof fails; exit 1", "the library is not proved"),
+    ("lib", "echo a proof fails; exit 1", "bujorelm is not proved"),
 )
 
 
