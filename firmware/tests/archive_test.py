@@ -196,8 +196,6 @@ def test_other_kits():
         shutil.copy(os.path.join(ROOT, "firmware", "build"), os.path.join(copy, "firmware", "build"))
         os.makedirs(os.path.join(copy, "host"), exist_ok=True)
         shutil.copy(os.path.join(ROOT, "host", "module"), os.path.join(copy, "host", "module"))
-        with open(os.path.join(copy, "crates.txt"), "w", encoding="utf-8"):
-            pass
         environment = dict(os.environ, PATH=folder + ":" + os.environ["PATH"])
         got = subprocess.run([os.path.join(copy, "firmware", "build"), "thumbv7m"], capture_output=True, text=True, check=False, env=environment)
         if got.returncode != 1 or words not in got.stderr:

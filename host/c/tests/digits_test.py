@@ -54,6 +54,7 @@ OPERATIONS = {
 DEFINED = re.compile(r'^define .*?@("[^"]+"|[\w.$]+)\(')
 CALLED = re.compile(r'@("[^"]+"|[\w.$]+)\(')
 OPERATION = re.compile(r"^\s+(?:%\S+ = )?(?:tail |musttail |notail )?([a-z]\w*)(?:\s|$)(.*)$")
+MOVES = re.compile(r"llvm\.mem(move|cpy|set)\.p0(\.p0)?\.i64")
 WIDENS = re.compile(r"^(?:zext|sext) (?:nneg )?i\d+ \S+ to i64\b|^trunc (?:nuw |nsw )*i64 \S+ to i\d+\b")
 
 
@@ -122,6 +123,12 @@ def reached(functions, roots):
     return seen
 
 
+def faults_of_calls(name, lines, functions):
+    """What a function calls that is no function of its module and does not only move or set bytes."""
+    called = [found.strip('"') for line in lines for found in CALLED.findall(line)]
+    return [f"{name} calls {other}" for other in called if other not in functions and not MOVES.fullmatch(other)]
+
+
 def faults_of_module(name, lines):
     """What is wrong with a function as the compiler is given it."""
     faults = []
@@ -181,6 +188,12 @@ define i32 @narrowed(i64 %x) {
   %a = trunc i64 %x to i32
   ret i32 %a
 }
+declare { i32, i1 } @llvm.umul.with.overflow.i32(i32, i32)
+define i32 @by_a_call(i32 %x) {
+  %a = call { i32, i1 } @llvm.umul.with.overflow.i32(i32 %x, i32 16)
+  %b = extractvalue { i32, i1 } %a, 0
+  ret i32 %b
+}
 define i32 @of_a_field(ptr %x) {
   %a = getelementptr i8, ptr %x, i64 8
   %b = load i64, ptr %a, align 8
@@ -198,8 +211,8 @@ def faults_of_the_looks(out):
     functions = functions_of(compiled)
     module = read_module(PLANTED_MODULE)
     found = {name: faults_of_code(functions, name, set()) for name in functions}
-    found_in_module = {name: faults_of_module(name, module[name]) for name in module}
-    wrong = [f"planted: {len(found)} and {len(found_in_module)} functions"] if (len(found), len(found_in_module)) != (11, 7) else []
+    found_in_module = {name: faults_of_module(name, module[name]) + faults_of_calls(name, module[name], module) for name in module}
+    wrong = [f"planted: {len(found)} and {len(found_in_module)} functions"] if (len(found), len(found_in_module)) != (11, 8) else []
     for faults in (found, found_in_module):
         wrong += [f"planted {name}: {faults[name]}" for name in faults if bool(faults[name]) == (name == "sound")]
     return wrong
@@ -215,10 +228,14 @@ def main():
     for crate, roots in MODULES.items():
         module = out / f"{crate}.ll"
         subprocess.run([root / "host" / "module", crate, module], check=True)
-        given |= reached(read_module(module.read_text(encoding="utf-8")), roots)
+        functions_given = read_module(module.read_text(encoding="utf-8"))
+        looked_at = reached(functions_given, roots)
+        for name, lines in looked_at.items():
+            wrong += faults_of_calls(name, lines, functions_given)
+        given |= looked_at
     for name, function in given.items():
         wrong += faults_of_module(name, function)
-    wanted = REACHED | LENGTHS.keys()
+    wanted = REACHED | LENGTHS.keys() | {root for roots in MODULES.values() for root in roots}
     wrong += [f"{name} is not among the functions that were looked at" for name in sorted(wanted - given.keys())]
     for fault in wrong:
         print(f"digits_test.py: {fault}", file=sys.stderr)
