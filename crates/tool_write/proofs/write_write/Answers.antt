@@ -1,6 +1,7 @@
 -- `write_write` meets its contract.
 -- Assumes nothing.
-use mathlib.Core.Path.{refl}
+use mathlib.Core.Path.{◌≡◌, refl}
+use mathlib.Core.Bool.{true}
 use native.Mathlib.Omega.{arith}
 use Rattle.tool_write_spec.specs.Writing.{command_for, in_range}
 use Rattle.tool_write_spec.proofs.WritesLaws.{writes-w1, writes-w2, writes-command}
@@ -13,10 +14,12 @@ returns-then-not-bytes_fit c = writes-w1 (refused c.bytes_fit.ensures c.if-not-b
 
 pub returns-then-buffer-lt-SMALLEST_BUFFER : goal.returns-then-buffer-lt-SMALLEST_BUFFER
 unfolding in_range
-returns-then-buffer-lt-SMALLEST_BUFFER c = writes-w2 (passed c.bytes_fit.ensures c.if-not-bytes_fit.false) (omega arith)
+returns-then-buffer-lt-SMALLEST_BUFFER c =
+    let fits : c.bytes_fit.result ≡ true = cc in
+    writes-w2 (passed c.bytes_fit.ensures fits) (omega arith)
 
 pub returns : goal.returns
 unfolding in_range command_for
 returns c =
-    let k = c in
-    writes-command (passed k.bytes_fit.ensures k.if-not-bytes_fit.false) refl (omega arith) (c.put_access.ensures.answer, c.put_access.ensures.buffer)
+    let fits : c.bytes_fit.result ≡ true = cc in
+    writes-command (passed c.bytes_fit.ensures fits) refl (omega arith) (c.put_access.ensures.answer, c.put_access.ensures.buffer)
