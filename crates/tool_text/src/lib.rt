@@ -2,30 +2,17 @@
 #![tactic(auto)]
 
 ghost use Rattle.std.specs.Prelude.{◌≡◌, drop};
-ghost use Rattle.tool_read_spec.specs.Finding.{first_zero, is_text};
-
-// Where the first zero byte stands, and the number of bytes where there is none.
-fn first_zero(bytes: &[u8]) -> usize
-    ensures { result ≡ first_zero bytes.now }
-{
-    let mut i = 0;
-    while i < bytes.len() {
-        if bytes[i] == 0 {
-            return i;
-        }
-        i += 1;
-    }
-    i
-}
+ghost use Rattle.tool_read_spec.specs.Finding.{is_text};
 
 // Whether the bytes from an index on are a text, or none.
 pub fn is_text_from(datagram: &[u8], start: usize) -> bool
     ensures { result ≡ is_text (drop start datagram.now) }
 {
-    let end = datagram.len();
-    if end <= start {
+    let Some(bytes) = datagram.get(start..) else {
         return true;
+    };
+    match bytes.iter().position(|b| *b == 0) {
+        Some(zero) => zero + 1 == bytes.len(),
+        None => bytes.is_empty(),
     }
-    let bytes = &datagram[start..];
-    first_zero(bytes) == bytes.len() - 1
 }

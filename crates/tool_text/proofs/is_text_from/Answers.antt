@@ -1,19 +1,20 @@
 -- `is_text_from` meets its contract.
 -- Assumes nothing.
-use Prim.Native.Nat.{◌-◌, ◌<◌}
-use mathlib.Core.Path.{◌≡◌}
-use native.Mathlib.Omega.{arith}
-use lib.ListN.{length, take, drop, length-drop}
-use Rattle.buffer.proofs.Ends.{part_rest}
-use Rattle.tool_text.proofs.TextLaws.{text-test, no_text}
+use Rattle.std.proofs.Common.{◌∙◌, sym, eqb, arith, rules, tests}
+use Rattle.std.proofs.lemmas.Iterator.{YieldsList-from_slice}
+use Rattle.std.proofs.lemmas.Iterator.Search.{position_from_yields_List}
+use Rattle.tool_text.proofs.TextLaws.{no_bytes, text-by-position, no_zero-byte}
 use Rattle.tool_text.proofs.is_text_from.Goals as goal
 
-pub returns-then-end-start : goal.returns-then-end-start
-returns-then-end-start c = let a = c.args in no_text a.datagram.now a.start c.if-end-start.true
+pub returns-in_default : goal.returns-in_default
+returns-in_default c = let h = c.in_default.ensures.lookup in no_bytes c.args.datagram.now c.args.start (grind arith)
 
-pub returns : goal.returns
-returns c =
-    let a = c.args in
-    let rest : take (length a.datagram.now - a.start) (drop a.start a.datagram.now) ≡ drop a.start a.datagram.now = part_rest a.datagram.now a.start in
-    let some : 0 < length (drop a.start a.datagram.now) = rw length-drop (omega (arith, c.if-end-start.false)) in
-    rw rest (text-test (drop a.start a.datagram.now) some (rw rest at c.first_zero.ensures))
+pub returns-in-Some-position : goal.returns-in-Some-position
+returns-in-Some-position c =
+    let found = position_from_yields_List (λ b. eqb b 0) _ _ c.position.result c.position.ensures.ran (YieldsList-from_slice _ c.iter.ensures.rest) (λ x b q k. search (rules, tests)) in
+    text-by-position c.args.datagram.now c.args.start c.in-Some.bytes.now _ (c.in-Some.ensures.lookup.0.2) (sym c.in-Some-position.is ∙ found)
+
+pub returns-in-None : goal.returns-in-None
+returns-in-None c =
+    let found = position_from_yields_List (λ b. eqb b 0) _ _ c.position.result c.position.ensures.ran (YieldsList-from_slice _ c.iter.ensures.rest) (λ x b q k. search (rules, tests)) in
+    c.is_empty.ensures ∙ no_zero-byte c.args.datagram.now c.args.start c.in-Some.bytes.now c.in-Some.ensures.lookup.0.2 (sym c.in-None.is ∙ found)
