@@ -1,23 +1,18 @@
--- `buffer::put` meets its contract. The invariant: the first i bytes of `src` are pasted into `dst`.
+-- `buffer::put` meets its contract.
 -- Assumes nothing.
 use native.Mathlib.Omega.{arith}
-use lib.ListN.{length-set}
-use Rattle.buffer.proofs.Laws.{placed-not, put_step, put_done}
+use Rattle.buffer.proofs.Laws.{placed-not, placed-copy}
 use Rattle.buffer.proofs.put.Goals as goal
+use Rattle.buffer.proofs.put.Goals.{else-at-dst-via-then-at-dst+else-src-dst, else-at-dst-via-else-at-dst}
 
-pub returns-then-dst-at : goal.returns-then-dst-at
-returns-then-dst-at c = let a = c.args in placed-not a.at a.src.now a.dst.now (omega arith)
-
-pub returns-then-dst-at-2 : goal.returns-then-dst-at-2
-returns-then-dst-at-2 c = let a = c.args in placed-not a.at a.src.now a.dst.now (omega arith)
-
-pub loop-i-preserved : goal.loop-i-preserved
-loop-i-preserved c =
+pub returns-then-src-dst : goal.returns-then-src-dst
+returns-then-src-dst c =
     let a = c.args in
-    let l = c.loop-i in
-    (omega arith, omega arith, put_step a.dst.now a.src.now a.at l.i l.invariant.2 (omega arith) (omega arith), simp length-set l.invariant.3)
+    placed-copy a.at _ a.dst.now a.src.now _ c.copy_from_slice.ensures.after (omega arith) (omega arith)
 
-pub returns : goal.returns
-returns c =
+pub returns-else-at-dst : goal.returns-else-at-dst
+returns-else-at-dst c =
     let a = c.args in
-    put_done a.dst.now a.src.now a.at c.loop-i.i c.loop-i.invariant.2 (omega arith) (omega arith)
+    placed-not a.at a.src.now a.dst.now (
+    elim c.else-at-dst.branch [ else-at-dst-via-then-at-dst+else-src-dst w ↦ omega arith | else-at-dst-via-else-at-dst w ↦ omega arith ]
+    )
