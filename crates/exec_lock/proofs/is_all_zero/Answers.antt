@@ -1,21 +1,13 @@
--- `is_all_zero` meets its contract. The invariant: all are zero iff those left are.
+-- `is_all_zero` meets its contract.
 -- Assumes nothing.
-use mathlib.Core.Path.{sym, ◌∙◌}
-use native.Mathlib.Omega.{arith}
-use Rattle.exec_lock.proofs.Laws.{zero-no, zero-next, zero-end}
+use Rattle.std.proofs.Common.{rules, eqb, ◌∙◌}
+use borrow.Author.Tests.{tests}
+use Rattle.std.proofs.lemmas.Iterator.{YieldsList-from_slice}
+use Rattle.std.proofs.lemmas.Iterator.Search.{all_from_yields_List}
+use Rattle.exec_lock.proofs.Laws.{zero-all}
 use Rattle.exec_lock.proofs.is_all_zero.Goals as goal
-
-pub returns-then-bytes-i-ne0 : goal.returns-then-bytes-i-ne0
-returns-then-bytes-i-ne0 c =
-    let l = c.loop-i in
-    sym (l.invariant.1 ∙ zero-no c.args.bytes l.i (omega arith) c.if-bytes-i-ne0.true)
-
-pub loop-i-preserved : goal.loop-i-preserved
-loop-i-preserved c =
-    let l = c.loop-i in
-    (l.invariant.0, l.invariant.1 ∙ zero-next c.args.bytes l.i (omega arith) c.if-bytes-i-ne0.false)
 
 pub returns : goal.returns
 returns c =
-    let l = c.loop-i in
-    sym (l.invariant.1 ∙ zero-end c.args.bytes l.i (omega arith))
+    all_from_yields_List (λ b. eqb b 0) _ _ c.all.result c.all.ensures.ran (YieldsList-from_slice c.args.bytes cc) (λ x b q k. search (rules, tests))
+    ∙ zero-all c.args.bytes

@@ -1,12 +1,14 @@
 -- `test_and_set` meets its contract.
 -- Assumes nothing.
-use native.Mathlib.Omega.{arith}
+use Rattle.std.proofs.Common.{◌∙◌, ap}
+use Rattle.exec_lock.specs.Lock.{lock_after}
 use Rattle.exec_lock.proofs.Laws.{other_length, six-sent}
 use Rattle.exec_lock.proofs.test_and_set.Goals as goal
 
-pub returns-then-id-eq6 : goal.returns-then-id-eq6
-returns-then-id-eq6 c =
-    six-sent _ _ (omega arith) c.reserved.ensures
+pub returns-in-Ok : goal.returns-in-Ok
+returns-in-Ok c =
+    let a = c.args in
+    c.reserved.ensures ∙ ap (lock_after a.held) c.in-Ok.ensures.1.same ∙ six-sent a.held a.id.now c.in-Ok.ensures.1.long
 
-pub returns : goal.returns
-returns c = let a = c.args in other_length a.held a.id.now (λ e. omega arith)
+pub returns-in-Err : goal.returns-in-Err
+returns-in-Err c = let a = c.args in other_length a.held a.id.now c.in-Err.ensures.1
