@@ -7,10 +7,8 @@ use mathlib.Core.List.{List}
 use Rattle.buffer.specs.LittleEndian.{number_in}
 use Rattle.buffer.proofs.Choice.{clash}
 use Rattle.buffer.proofs.LeastLaws.{two_back, eight-back}
-use Rattle.call_error.specs.CallErrors.{or_else}
+use Rattle.call_error.specs.CallErrors.{or_else, Checked}
 use Rattle.call_error.specs.declared.CallError.TheVariants.{B7BadReceptionState}
-use Rattle.call_error.specs.declared.Checked.{Checked}
-use Rattle.call_error.specs.declared.Checked.TheVariants.{Passed, Failed}
 use Rattle.rx_spec.specs.Books.{Event}
 use Rattle.rx_place_spec.specs.State.{State}
 use Rattle.rx_spec.specs.Reception.{Joined}
@@ -20,6 +18,7 @@ use Rattle.rx_join_spec.specs.StateCheck.{state_check}
 use Rattle.rx_join_spec.specs.Joins.{CallEvent, refused_by, brings, event_of, JoinEnds}
 use Rattle.rx_join_spec.proofs.CheckLaws.{only-b7}
 use Rattle.bujorelm_tool.specs.Joining.{joined_of, outcome_is}
+use Rattle.std.specs.Prelude.{Ok, Err}
 
 -- ---- no error but B7
 
@@ -54,18 +53,18 @@ joined-passes (outcome.TransportRefusal code) d bytes q = tt
 joined-passes outcome.InFrame d bytes q = tt
 joined-passes (outcome.InPool from end) d bytes q = tt
 
-nothing-later : (c : Checked) → or_else c Passed ≡ c
-nothing-later Passed = refl
-nothing-later (Failed error) = refl
+nothing-later : (c : Checked) → or_else c (Ok tt) ≡ c
+nothing-later (Ok u) = refl
+nothing-later (Err error) = refl
 
 module _ (st : State) (j : Joined) {d : List ℕ} {o : JoinResult} {before after pool bytes : List ℕ}
-    (ends : JoinEnds (or_else (state_check st) Passed) j d o before after pool bytes) where
+    (ends : JoinEnds (or_else (state_check st) (Ok tt)) j d o before after pool bytes) where
   refused_b7 : OnlyB7 o
-  refused_b7 = go (or_else (state_check st) Passed) refl
+  refused_b7 = go (or_else (state_check st) (Ok tt)) refl
     where
-      go : (c : Checked) → or_else (state_check st) Passed ≡ c → OnlyB7 o
-      go Passed e = joined-passes o d bytes (ends.joins e).event
-      go (Failed error) e = rw (ends.refuses error e).result (only-b7 st e)
+      go : (c : Checked) → or_else (state_check st) (Ok tt) ≡ c → OnlyB7 o
+      go (Ok u) e = joined-passes o d bytes (ends.joins e).event
+      go (Err error) e = rw (ends.refuses error e).result (only-b7 st e)
 
   pub outcome-stored : {joined : List ℕ} → joined ≡ joined_of o →
       (JoinEnds (state_check st) j d (outcome_is joined) before after pool bytes) × (outcome_is joined ≡ o)

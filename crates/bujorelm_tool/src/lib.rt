@@ -26,7 +26,6 @@ ghost use Rattle.mask_diff.specs.Numbers.{numbers_of, change_is};
 ghost use Rattle.bujorelm_tool.specs.Composing.{Composes};
 ghost use Rattle.bujorelm_tool.specs.Joining.{joined_bytes, joined_of, outcome_is};
 
-use call_error::Checked;
 use rx_join_spec::JoinResult;
 use tool_write_spec::CommandWritten;
 
@@ -239,7 +238,7 @@ pub extern "C" fn bujorelm_join(
         (place_of (source_of header) (drop_due 0 (places_in places.old))) (outcome_is joined.new) }
     ensures numbers { joined.new ≡ joined_of (outcome_is joined.new) }
 {
-    let outcome = rx_join::join(pool, places, alias, 0, header, payload, Checked::Passed);
+    let outcome = rx_join::join(pool, places, alias, 0, header, payload, Ok(()));
     put_outcome(outcome, joined);
 }
 

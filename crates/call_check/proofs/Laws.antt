@@ -2,28 +2,26 @@
 -- Assumes nothing.
 use Prim.Native.Nat.{ℕ, zero, suc, ◌+◌, ◌-◌, ◌*◌, ◌/◌, ◌%◌, ◌^◌, ◌≤◌, ◌<◌, max}
 use mathlib.Core.Path.{◌≡◌, refl, sym, ap, subst, ◌∙◌}
-use mathlib.Core.Bool.{Bool, true, false, cond, not, ◌||◌}
+use mathlib.Core.Bool.{Bool, true, false, cond, ◌||◌}
 use mathlib.Core.List.{List, [], ◌∷◌, ◌++◌}
 use native.Mathlib.Numerals.{add-one}
 use native.Mathlib.Omega.{arith}
 use lib.Arith.{bin_ind}
 use lib.Bits.{bit_or, or_step, or_zero_l, or_self, or_comm}
-use lib.Dec.{eqb, ltb}
+use lib.Dec.{eqb}
 use lib.ListN.{length, drop, get_or, drop_of_length-le}
 use lib.Seq.{drop-cons}
 use borrow.Author.Tests.{eq-eqb, ne_eqb}
-use Rattle.buffer.proofs.Choice.{cond-true, cond-elim}
 use Rattle.space_table.specs.Table.{no_space, row_at, space_at, spaces_from, spaces_in}
 use Rattle.space_table.proofs.TableLaws.{spaces-length, space-in, table_next, table_done}
 use Rattle.space_table.specs.declared.Space.{Space}
-use Rattle.call_error.specs.CallErrors.{passes, or_else, among, space_numbers, window_check, spaces_check, description_check}
+use Rattle.call_error.specs.CallErrors.{or_else, among, space_numbers, window_check, spaces_check, description_check, Checked}
+use Rattle.call_error.specs.declared.CallError.{CallError}
 use Rattle.call_error.specs.declared.CallError.TheVariants.{B5NumberUsedTwice}
-use Rattle.call_error.specs.declared.Checked.{Checked}
-use Rattle.call_error.specs.declared.Checked.TheVariants.{Passed, Failed}
 use Rattle.call_error.specs.Positions.{Positioned}
-use Rattle.call_error.proofs.Laws.{tested_failed, tested_passed}
+use Rattle.call_error.proofs.Laws.{first_counts, second_counts}
 use Rattle.call_error.proofs.Positions.{Unplaced, positioned}
-use Rattle.call_check.specs.Calls.{buffer_check, call_check}
+use Rattle.std.specs.Prelude.{Ok, Err}
 
 -- ---- the numbers that are used
 
@@ -112,38 +110,33 @@ marks_more marks earlier n m k z = rw (among-more k n earlier, ne_eqb n k other,
 
 -- ---- the check
 
--- a turn of the check, by the answer for the window and whether the number is used; and its end. The position is the number of earlier spaces
-module _ (l : List Space) (i f m : ℕ) (earlier : List ℕ) {s : Space} {checked : Checked} {g : Bool}
-    (at : length earlier ≡ i) (h : i < length l) (e : s ≡ get_or l i no_space) (w : checked ≡ window_check f m i s) (v : g ≡ passes checked) where
-  turn : spaces_check f m earlier (drop i l) ≡ or_else (or_else checked (cond (among s.number earlier) (Failed (B5NumberUsedTwice i)) Passed)) (spaces_check f m (earlier ++ (s.number ∷ [])) (drop (i + 1) l))
+-- a turn of the check, by what is found of the window and whether the number is used; and its end. The position is the number of earlier spaces
+module _ (l : List Space) (i f m : ℕ) (earlier : List ℕ) {s : Space} (at : length earlier ≡ i) (h : i < length l) (e : s ≡ get_or l i no_space) where
+  turn : spaces_check f m earlier (drop i l) ≡ or_else (or_else (window_check f m i s) (cond (among s.number earlier) (Err (B5NumberUsedTwice i)) (Ok tt))) (spaces_check f m (earlier ++ (s.number ∷ [])) (drop (i + 1) l))
   unfolding spaces_check
-  turn = rw (add-one i, drop-cons l i no_space h, at, w, e)
+  turn = rw (add-one i, drop-cons l i no_space h, at, e)
 
-  pub turn-refused : not g ≡ true → spaces_check f m earlier (drop i l) ≡ checked
-  turn-refused q = turn ∙ rw (tested_failed checked v q, tested_failed checked v q)
+  pub turn-refused : {error : CallError} → window_check f m i s ≡ Err error → spaces_check f m earlier (drop i l) ≡ Err error
+  turn-refused q = turn ∙ rw q refl
 
-  module _ (q : not g ≡ false) where
-    pub turn-used : among s.number earlier ≡ true → spaces_check f m earlier (drop i l) ≡ Failed (B5NumberUsedTwice i)
-    turn-used z = turn ∙ rw (tested_passed checked v q, z)
+  module _ {u : Unit {0}} (q : window_check f m i s ≡ Ok u) where
+    pub turn-used : among s.number earlier ≡ true → spaces_check f m earlier (drop i l) ≡ Err (B5NumberUsedTwice i)
+    turn-used z = turn ∙ rw (q, z)
 
     pub turn-good : among s.number earlier ≡ false → spaces_check f m earlier (drop i l) ≡ spaces_check f m (earlier ++ (s.number ∷ [])) (drop (i + 1) l)
-    turn-good z = turn ∙ rw (tested_passed checked v q, z)
+    turn-good z = turn ∙ rw (q, z)
 
-pub turn-none : (l : List Space) (i f m : ℕ) (earlier : List ℕ) → length l ≤ i → spaces_check f m earlier (drop i l) ≡ Passed
+pub turn-none : (l : List Space) (i f m : ℕ) (earlier : List ℕ) → length l ≤ i → spaces_check f m earlier (drop i l) ≡ Ok tt
 unfolding spaces_check
 turn-none l i f m earlier h = rw (drop_of_length-le l {i = i} h)
 
 -- ---- a call
 
-buffer-nowhere : (reply : ℕ) → Unplaced (buffer_check reply)
-buffer-nowhere reply = cond-elim Unplaced (ltb reply 72) (λ q. refl) (λ q. refl)
+-- what its position says: of an error of the description, and of what is found behind a description without one, which
+-- has no position of its own, whatever it is
+module _ (alias : ℕ) (l : List Space) (f m : ℕ) where
+  pub positioned_first : {error : CallError} → description_check alias l f m ≡ Err error → Positioned alias f m l (Err error)
+  positioned_first e = subst (Positioned alias f m l) (first_counts _ (Ok tt) e) (positioned alias f m l (Ok tt) refl)
 
--- the first error of a call, and what its position says
-pub call-positioned : (alias : ℕ) (l : List Space) (f m reply : ℕ) {checked : Checked} → checked ≡ call_check alias l f m reply
-    → (checked ≡ call_check alias l f m reply) × Positioned alias f m l checked
-call-positioned alias l f m reply e = (e, subst (Positioned alias f m l) (sym e) (positioned alias f m l (buffer_check reply) (buffer-nowhere reply)))
-
--- what is found behind a description without an error has no position of its own, whatever it is
-pub positioned_behind : (alias : ℕ) (l : List Space) (f m : ℕ) (other : Checked) → Unplaced other → passes (description_check alias l f m) ≡ true
-    → Positioned alias f m l other
-positioned_behind alias l f m other nowhere good = subst (Positioned alias f m l) (cond-true _ _ _ good) (positioned alias f m l other nowhere)
+  pub positioned_behind : (other : Checked) → Unplaced other → {u : Unit {0}} → description_check alias l f m ≡ Ok u → Positioned alias f m l other
+  positioned_behind other nowhere good = subst (Positioned alias f m l) (second_counts _ other good) (positioned alias f m l other nowhere)

@@ -1,8 +1,7 @@
 // B2 to B5 of the spaces of a table, in their order, each with the position of the space.
-ghost use Rattle.std.specs.Prelude.{◌≡◌, true, [], ◌*◌, ◌≤◌, length};
+ghost use Rattle.std.specs.Prelude.{◌≡◌, true, [], ◌*◌, ◌≤◌, length, Ok};
 ghost use Rattle.space_table.specs.Table.{spaces_from, spaces_in};
 ghost use Rattle.call_error.specs.CallErrors.{among, space_numbers, spaces_check};
-ghost use Rattle.call_error.specs.declared.Checked.TheVariants.{Passed};
 
 use call_error::{CallError, Checked};
 
@@ -12,7 +11,7 @@ pub fn check_spaces(table: &[u8], flash_len: usize, memory_len: usize) -> Checke
     ensures { result ≡ spaces_check flash_len memory_len [] (spaces_in table.now) }
 {
     if pass_quickly(table, flash_len, memory_len) {
-        return Checked::Passed;
+        return Ok(());
     }
     check_each(table, flash_len, memory_len)
 }
@@ -21,12 +20,10 @@ pub fn check_spaces(table: &[u8], flash_len: usize, memory_len: usize) -> Checke
 // sets a mark, the bit at the remainder of its number by 32: as long as each changes the marks, no number is used
 // twice.
 fn pass_quickly(table: &[u8], flash_len: usize, memory_len: usize) -> bool
-    ensures { result ≡ true → spaces_check flash_len memory_len [] (spaces_in table.now) ≡ Passed }
+    ensures { result ≡ true → spaces_check flash_len memory_len [] (spaces_in table.now) ≡ Ok tt }
 {
-    let count = space_table::space_count(table);
     let mut marks = 0u32;
-    let mut i = 0;
-    while i < count {
+    for i in 0..space_table::space_count(table) {
         let space = space_table::space_at(table, i);
         if !call_limits::window_passes(space, flash_len, memory_len) {
             return false;
@@ -36,7 +33,6 @@ fn pass_quickly(table: &[u8], flash_len: usize, memory_len: usize) -> bool
             return false;
         }
         marks = marked;
-        i += 1;
     }
     true
 }
@@ -46,21 +42,15 @@ fn check_each(table: &[u8], flash_len: usize, memory_len: usize) -> Checked
     requires { length (spaces_in table.now) ≤ 16 }
     ensures { result ≡ spaces_check flash_len memory_len [] (spaces_in table.now) }
 {
-    let count = space_table::space_count(table);
-    let mut i = 0;
-    while i < count {
+    for i in 0..space_table::space_count(table) {
         let position = i as u8;
         let space = space_table::space_at(table, i);
-        let checked = call_limits::check_window(space, position, flash_len, memory_len);
-        if !call_error::passes(checked) {
-            return checked;
-        }
+        call_limits::check_window(space, position, flash_len, memory_len)?;
         if is_used(table, i, space.number) {
-            return Checked::Failed(CallError::B5NumberUsedTwice(position));
+            return Err(CallError::B5NumberUsedTwice(position));
         }
-        i += 1;
     }
-    Checked::Passed
+    Ok(())
 }
 
 // Whether one of the first `count` spaces of a table has the number.
@@ -68,12 +58,10 @@ fn is_used(table: &[u8], count: usize, number: u8) -> bool
     requires { 16 * count ≤ length table.now }
     ensures { result ≡ among number (space_numbers (spaces_from table.now 0 count)) }
 {
-    let mut row = 0;
-    while row < count {
+    for row in 0..count {
         if table[16 * row] == number {
             return true;
         }
-        row += 1;
     }
     false
 }

@@ -15,20 +15,16 @@ use call_error::{CallError, Checked};
 fn check_description(alias: u16, spaces: &[u8], flash_len: usize, memory_len: usize) -> Checked
     ensures { result ≡ description_check alias (spaces_in spaces.now) flash_len memory_len }
 {
-    let checked = call_limits::check_limits(
+    call_limits::check_limits(
         space_table::space_count(spaces),
         memory_len,
         flash_len,
         alias,
-    );
-    if !call_error::passes(checked) {
-        return checked;
-    }
+    )?;
     checks::check_spaces(spaces, flash_len, memory_len)
 }
 
 // The first of B11 to B14 and B2 to B6 that applies, and what its position says.
-#[tactic(auto, using(crate::proofs::Laws::positioned_behind))]
 pub fn check_call(
     alias: u16,
     spaces: &[u8],
@@ -39,12 +35,9 @@ pub fn check_call(
     ensures first { result ≡ call_check alias (spaces_in spaces.now) flash_len memory_len reply_len }
     ensures position { Positioned alias flash_len memory_len (spaces_in spaces.now) result }
 {
-    let checked = check_description(alias, spaces, flash_len, memory_len);
-    if !call_error::passes(checked) {
-        return checked;
-    }
+    check_description(alias, spaces, flash_len, memory_len)?;
     if reply_len < 72 {
-        return Checked::Failed(CallError::B6ReplyBufferTooShort);
+        return Err(CallError::B6ReplyBufferTooShort);
     }
-    Checked::Passed
+    Ok(())
 }

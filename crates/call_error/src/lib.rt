@@ -3,7 +3,7 @@
 #![tactic(auto)]
 
 ghost use Rattle.std.specs.Prelude.{◌≡◌};
-ghost use Rattle.call_error.specs.CallErrors.{passes, refusal_of};
+ghost use Rattle.call_error.specs.CallErrors.{refusal_of};
 
 // An error that the caller made, returned and never sent, under the number that the papers give it: document 01 calls
 // these the house numbers. They stand here in the order in which they are tested. Those of a space bring its position
@@ -22,29 +22,8 @@ pub enum CallError {
     B7BadReceptionState,
 }
 
-// What a check finds: no error, or the first that applies.
-#[derive(Clone, Copy)]
-pub enum Checked {
-    Passed,
-    Failed(CallError),
-}
-
-// The position of a space in the description, counted from 0, or that there is none: a blank is not a zero.
-#[derive(Clone, Copy)]
-pub enum Position {
-    Nowhere,
-    At(u8),
-}
-
-// Whether a check found no error.
-pub fn passes(checked: Checked) -> bool
-    ensures { result ≡ passes checked }
-{
-    match checked {
-        Checked::Passed => true,
-        Checked::Failed(_) => false,
-    }
-}
+// What a check finds: nothing, or the first error that applies.
+pub type Checked = Result<(), CallError>;
 
 // The paper's number.
 pub fn number_of(error: CallError) -> u8
@@ -64,20 +43,20 @@ pub fn number_of(error: CallError) -> u8
     }
 }
 
-// The position of the space that it refuses.
-pub fn position_of(error: CallError) -> Position
+// The position of the space that it refuses, counted from 0, where it refuses one: a blank is not a zero.
+pub fn position_of(error: CallError) -> Option<u8>
     ensures { result ≡ (refusal_of error).position }
 {
     match error {
-        CallError::B11TooManySpaces => Position::Nowhere,
-        CallError::B12MemoryTooLarge => Position::Nowhere,
-        CallError::B13FlashTooLarge => Position::Nowhere,
-        CallError::B14AliasOutOfRange => Position::Nowhere,
-        CallError::B2LowestAboveHighest(position) => Position::At(position),
-        CallError::B3WindowPastEnd(position) => Position::At(position),
-        CallError::B4MustBeReadOnly(position) => Position::At(position),
-        CallError::B5NumberUsedTwice(position) => Position::At(position),
-        CallError::B6ReplyBufferTooShort => Position::Nowhere,
-        CallError::B7BadReceptionState => Position::Nowhere,
+        CallError::B11TooManySpaces => None,
+        CallError::B12MemoryTooLarge => None,
+        CallError::B13FlashTooLarge => None,
+        CallError::B14AliasOutOfRange => None,
+        CallError::B2LowestAboveHighest(position) => Some(position),
+        CallError::B3WindowPastEnd(position) => Some(position),
+        CallError::B4MustBeReadOnly(position) => Some(position),
+        CallError::B5NumberUsedTwice(position) => Some(position),
+        CallError::B6ReplyBufferTooShort => None,
+        CallError::B7BadReceptionState => None,
     }
 }

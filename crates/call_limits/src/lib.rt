@@ -13,21 +13,21 @@ pub fn check_limits(space_count: usize, memory_len: usize, flash_len: usize, ali
     ensures { result ≡ limits_check alias space_count flash_len memory_len }
 {
     if 16 < space_count {
-        return Checked::Failed(CallError::B11TooManySpaces);
+        return Err(CallError::B11TooManySpaces);
     }
     if 65536 < memory_len {
-        return Checked::Failed(CallError::B12MemoryTooLarge);
+        return Err(CallError::B12MemoryTooLarge);
     }
     if 65536 < flash_len {
-        return Checked::Failed(CallError::B13FlashTooLarge);
+        return Err(CallError::B13FlashTooLarge);
     }
     if alias == 0 {
-        return Checked::Failed(CallError::B14AliasOutOfRange);
+        return Err(CallError::B14AliasOutOfRange);
     }
     if 4095 < alias {
-        return Checked::Failed(CallError::B14AliasOutOfRange);
+        return Err(CallError::B14AliasOutOfRange);
     }
-    Checked::Passed
+    Ok(())
 }
 
 // B2, B3 and B4 of the space at a position.
@@ -35,33 +35,33 @@ pub fn check_window(space: Space, position: u8, flash_len: usize, memory_len: us
     ensures { result ≡ window_check flash_len memory_len position space }
 {
     if space.highest < space.lowest {
-        return Checked::Failed(CallError::B2LowestAboveHighest(position));
+        return Err(CallError::B2LowestAboveHighest(position));
     }
     let end = space.offset as usize + space_lookup::size_of(space);
     if space.in_flash {
         if flash_len < end {
-            return Checked::Failed(CallError::B3WindowPastEnd(position));
+            return Err(CallError::B3WindowPastEnd(position));
         }
         if space.read_only {
-            return Checked::Passed;
+            return Ok(());
         }
-        return Checked::Failed(CallError::B4MustBeReadOnly(position));
+        return Err(CallError::B4MustBeReadOnly(position));
     }
     if memory_len < end {
-        return Checked::Failed(CallError::B3WindowPastEnd(position));
+        return Err(CallError::B3WindowPastEnd(position));
     }
     if space.read_only {
-        return Checked::Passed;
+        return Ok(());
     }
     if space.number == 0xFF {
-        return Checked::Failed(CallError::B4MustBeReadOnly(position));
+        return Err(CallError::B4MustBeReadOnly(position));
     }
-    Checked::Passed
+    Ok(())
 }
 
 // Whether none of these refuses the space, at whatever position: the one that is handed on plays no part.
 pub fn window_passes(space: Space, flash_len: usize, memory_len: usize) -> bool
     ensures { (position : ℕ) → result ≡ passes (window_check flash_len memory_len position space) }
 {
-    call_error::passes(check_window(space, 0, flash_len, memory_len))
+    check_window(space, 0, flash_len, memory_len).is_ok()
 }

@@ -1,9 +1,7 @@
 -- What comes of a call as numbers, for a caller in C.
-use Rattle.std.specs.Prelude.{ℕ}
+use Rattle.std.specs.Prelude.{ℕ, Option, Some, None}
 use Rattle.call_error.specs.CallErrors.{refusal_of}
 use Rattle.call_error.specs.declared.CallError.{CallError}
-use Rattle.call_error.specs.declared.Position.{Position}
-use Rattle.call_error.specs.declared.Position.TheVariants.{Nowhere, At}
 use Rattle.reply_answer.specs.declared.Answer.{Answer}
 use Rattle.reply_answer.specs.declared.Answer.TheVariants as answer
 use Rattle.node_spec.specs.declared.Handled.{Handled}
@@ -14,9 +12,9 @@ use Rattle.capi_numbers.specs.Numbers.{kind_ignored, kind_joined, kind_transport
 use Rattle.capi_numbers.specs.declared.CallResult.{CallResult}
 
 -- The number that stands for a position.
-abbrev pub position_number : Position → ℕ
-position_number Nowhere = no_position
-position_number (At index) = index
+abbrev pub position_number : Option ℕ → ℕ
+position_number None = no_position
+position_number (Some index) = index
 
 -- An error of the caller, with the position of the refused space.
 abbrev pub error_numbers : CallError → ℕ → CallResult

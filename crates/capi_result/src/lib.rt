@@ -6,18 +6,18 @@ ghost use Rattle.capi_numbers.specs.Numbers.{in_bytes, result_bytes};
 ghost use Rattle.node_spec.specs.TickCall.{tick_answer};
 ghost use Rattle.capi_result.specs.Result.{position_number, error_numbers, answer_numbers, handled_numbers, frame_numbers};
 
-use call_error::{CallError, Position};
+use call_error::CallError;
 use capi_numbers::ResultBytes;
 use node_spec::{FrameAnswer, Handled};
 use reply_answer::Answer;
 
 // The number that stands for a position.
-fn position_number(position: Position) -> u8
+fn position_number(position: Option<u8>) -> u8
     ensures { result ≡ position_number position }
 {
     match position {
-        Position::Nowhere => capi_numbers::NO_POSITION,
-        Position::At(index) => index,
+        None => capi_numbers::NO_POSITION,
+        Some(index) => index,
     }
 }
 

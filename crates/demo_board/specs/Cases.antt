@@ -1,8 +1,7 @@
 -- Document 01, "Whole datagrams, each on a fresh board; † are the proved ones": one list, and one statement about the
 -- definitions.
-use Rattle.std.specs.Prelude.{ℕ, ◌≡◌, List, [], ◌∷◌, map, length, replicate}
+use Rattle.std.specs.Prelude.{ℕ, ◌≡◌, List, [], ◌∷◌, map, length, replicate, Ok}
 use Rattle.call_error.specs.CallErrors.{description_check}
-use Rattle.call_error.specs.declared.Checked.TheVariants.{Passed}
 use Rattle.reply_answer.specs.Answers.{Result, datagram_rejected, received_ok_reply}
 use Rattle.exec_spec.specs.Handling.{outcome, handle}
 use Rattle.demo_board.specs.Board.{demo_alias, demo_spaces, demo_flash, demo_memory, demo_fixed, demo_contents}
@@ -35,5 +34,5 @@ cases =
 -- The demonstration board has no error; and each of the cases, on a fresh one, is answered so and leaves
 -- memory and the registers as they were.
 pub record ProvedCases : Type 0 where
-  pub good : description_check demo_alias demo_spaces (length demo_flash) (length demo_memory) ≡ Passed
+  pub good : description_check demo_alias demo_spaces (length demo_flash) (length demo_memory) ≡ Ok tt
   pub answered : map (λ c. handle demo_fixed demo_contents c.sent) cases ≡ map (λ c. outcome c.result demo_contents) cases

@@ -1,11 +1,11 @@
 // A board by its bytes, and the error of the caller that refuses it.
-use call_error::{CallError, Checked, Position};
+use call_error::{CallError, Checked};
 use std::io;
 
-fn print_position(rt: &HostRuntime, position: Position) -> io::Result<()> {
+fn print_position(rt: &HostRuntime, position: Option<u8>) -> io::Result<()> {
     match position {
-        Position::Nowhere => Ok(()),
-        Position::At(index) => {
+        None => Ok(()),
+        Some(index) => {
             crate::output::print(rt, b" of space ")?;
             crate::output::print_decimal(rt, index)
         }
@@ -20,8 +20,8 @@ pub fn print_error(rt: &HostRuntime, error: CallError) -> io::Result<()> {
 
 fn print_checked(rt: &HostRuntime, checked: Checked) -> io::Result<()> {
     match checked {
-        Checked::Passed => crate::output::print(rt, b"not refused"),
-        Checked::Failed(error) => print_error(rt, error),
+        Ok(()) => crate::output::print(rt, b"not refused"),
+        Err(error) => print_error(rt, error),
     }
 }
 

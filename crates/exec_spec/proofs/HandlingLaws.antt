@@ -10,7 +10,6 @@ use lib.ListN.{length, length-append, length-take}
 use borrow.Author.Tests.{le-leb}
 use Rattle.buffer.proofs.Choice.{cond-elim}
 use Rattle.call_error.specs.CallErrors.{description_check}
-use Rattle.call_error.specs.declared.Checked.TheVariants.{Passed}
 use Rattle.space_lookup.specs.declared.Found.{Found}
 use Rattle.space_lookup.specs.declared.Found.TheVariants.{Described, Empty, Unknown}
 use Rattle.cmd_fields.specs.Commands.{Request, read, write, write_masked, options, information, reserve, update_complete, space_byte, head_bytes}
@@ -34,6 +33,7 @@ use Rattle.space_reach.specs.declared.Access.TheVariants.{Fails, Reaches}
 use Rattle.exec_spec.proofs.AccessLaws.{write-changes}
 use Rattle.exec_spec.specs.Performing.{Fixed, Contents, found_in, outcome, sent, write_outcome, perform, Announced, Leaves, SixBytes, Performed}
 use Rattle.exec_spec.specs.Handling.{answer_reading, handle, Short, Performs, WrittenInside, Bounds, HandleBounds}
+use Rattle.std.specs.Prelude.{Ok}
 
 -- ---- the lengths of the replies
 
@@ -139,7 +139,7 @@ module _ (x : Fixed) (c : Contents) where
 
   module _ (form : Form) (space address n : ℕ) where
     write-inside : (a : Access) → access true (found_in x space) address n ≡ a →
-        description_check x.alias x.spaces (length x.flash) (length c.memory) ≡ Passed →
+        description_check x.alias x.spaces (length x.flash) (length c.memory) ≡ Ok tt →
         WrittenInside (length c.memory) (in_bytes (write_result form space address n a))
     unfolding write_result
     write-inside (Fails code) e g = tt

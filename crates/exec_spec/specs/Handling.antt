@@ -1,8 +1,7 @@
 -- A datagram handled whole. What a request does, and the records that this speaks of, are those of `Performing`, passed
 -- on here.
-use Rattle.std.specs.Prelude.{ℕ, ◌+◌, ◌≤◌, ◌≡◌, List, length}
+use Rattle.std.specs.Prelude.{ℕ, ◌+◌, ◌≤◌, ◌≡◌, List, length, Ok}
 use Rattle.call_error.specs.CallErrors.{description_check}
-use Rattle.call_error.specs.declared.Checked.TheVariants.{Passed}
 use Rattle.cmd_decode.specs.Decoding.{Reading, rejected, request, decode}
 use Rattle.reply_answer.specs.Answers.{Result, datagram_rejected, written, update_completed, received_ok_reply, answer_of, Agrees}
 use Rattle.reply_answer.specs.declared.Answer.{Answer}
@@ -32,7 +31,7 @@ WrittenInside m (received_ok_reply reply) = Unit {0}
 -- memory has no error these are bytes of memory.
 pub record Bounds (x : Fixed) (c : Contents) (o : Outcome) : Type 0 where
   pub changes : Changes (answer_of o.result) c.memory o.contents.memory
-  pub inside : description_check x.alias x.spaces (length x.flash) (length c.memory) ≡ Passed → WrittenInside (length c.memory) o.result
+  pub inside : description_check x.alias x.spaces (length x.flash) (length c.memory) ≡ Ok tt → WrittenInside (length c.memory) o.result
 
 -- of every datagram
 abbrev pub HandleBounds : Type 0

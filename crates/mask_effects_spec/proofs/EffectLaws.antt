@@ -9,7 +9,6 @@ use lib.ListN.{length, length-map}
 use Rattle.buffer.specs.Buffer.{AllBytes, Each}
 use Rattle.buffer.proofs.Choice.{clash}
 use Rattle.call_error.specs.CallErrors.{description_check}
-use Rattle.call_error.specs.declared.Checked.TheVariants.{Passed}
 use Rattle.space_table.specs.declared.Space.{Space}
 use Rattle.space_lookup.specs.Description.{find_space}
 use Rattle.cmd_fields.specs.Commands.{Pair, Request, read, write, write_masked, options, information, reserve, update_complete}
@@ -33,6 +32,7 @@ use Rattle.mask_combine.proofs.ListLaws.{add_up}
 use Rattle.mask_effects_spec.specs.Effects.{PairsWritten, no_write, pairs_from, request_writes, reading_writes, written_by, is_pairs, is_write, reached_by, is_reached, accepted_pairs, is_accepted_write, placed_from, reached_effect, written_effect, effect_of, effect_of_all, contents_after_all, AcceptedWrites, Content, Does, AddsUp, OnGoodBoards}
 use Rattle.mask_effects_spec.proofs.StoreLaws.{BytePairs, keeps, bytes-stored, pairs-stored, placed-effect}
 use Rattle.mask_effects_spec.proofs.ReadingLaws.{BytesOf, BytesIn, decoded_bytes, ProperPairs, written-proper}
+use Rattle.std.specs.Prelude.{Ok}
 
 -- ---- contents
 
@@ -74,7 +74,7 @@ pairs-store m pairs b index memory h k f = pairs-stored m index pairs memory b h
 
 -- ---- one datagram
 
-module _ (x : Fixed) (m : ℕ) (good : description_check x.alias x.spaces (length x.flash) m ≡ Passed) where
+module _ (x : Fixed) (m : ℕ) (good : description_check x.alias x.spaces (length x.flash) m ≡ Ok tt) where
   fits : (space address : ℕ) (e : List Pair) (s : Space) → reached_by x.spaces space address e ≡ Reaches s → index_of s address + length e ≤ m
   fits space address e s q = writes-fit x.alias x.spaces (length x.flash) m space address (length e) s good q
 

@@ -9,7 +9,6 @@ use lib.ListN.{length, get_or}
 use Rattle.buffer.specs.Buffer.{AllBytes, Each}
 use Rattle.buffer.proofs.Choice.{clash}
 use Rattle.call_error.specs.CallErrors.{description_check}
-use Rattle.call_error.specs.declared.Checked.TheVariants.{Passed}
 use Rattle.cmd_fields.specs.Commands.{Request, read, write, write_masked, options, information, reserve, update_complete}
 use Rattle.cmd_fields.specs.declared.Form.{Form}
 use Rattle.cmd_decode.specs.Decoding.{Reading, rejected, request, decode}
@@ -23,6 +22,7 @@ use Rattle.mask_combine.proofs.ListLaws.{add_up}
 use Rattle.mask_effects_spec.specs.Effects.{request_writes, reading_writes, written_by, is_pairs, is_write, effect_of, effect_of_all, contents_after_all, Content}
 use Rattle.mask_effects_spec.specs.AnyOrder.{Apart, TwoWrites, Interleaved, none, left, right, results_of, AllApart, Interleaves, WritesAddUp}
 use Rattle.mask_effects_spec.proofs.EffectLaws.{one-effect, all-effect, all-do, all-joined, adds_up_lem, writes, accepted-writes}
+use Rattle.std.specs.Prelude.{Ok}
 
 -- ---- a write is answered by the description alone, and leaves the registers
 
@@ -85,7 +85,7 @@ module _ (x : Fixed) where
 
 -- ---- two writes
 
-module _ (x : Fixed) (m : ℕ) (good : description_check x.alias x.spaces (length x.flash) m ≡ Passed) where
+module _ (x : Fixed) (m : ℕ) (good : description_check x.alias x.spaces (length x.flash) m ≡ Ok tt) where
   two_effects : (d e : List ℕ) → AllBytes d → AllBytes e → effect_of_all x.spaces m (d ∷ e ∷ []) ≡ together (effect_of x.spaces m d) (effect_of x.spaces m e)
   unfolding effect_of_all
   two_effects d e a b = ap (together (effect_of x.spaces m d)) ((add_up m).behind (effect_of x.spaces m e) (one-effect x m good e b))

@@ -1,10 +1,9 @@
 -- C-16 of document 02, "Writes that add up": what a list of datagrams does to every content of memory.
-use Rattle.std.specs.Prelude.{ℕ, ◌+◌, ◌-◌, ◌≡◌, Bool, true, false, List, [], ◌∷◌, ◌++◌, map, length}
+use Rattle.std.specs.Prelude.{ℕ, ◌+◌, ◌-◌, ◌≡◌, Bool, true, false, List, [], ◌∷◌, ◌++◌, map, length, Ok}
 use Rattle.buffer.specs.Buffer.{AllBytes, Each}
 use Rattle.space_table.specs.declared.Space.{Space}
 use Rattle.space_lookup.specs.Description.{find_space}
 use Rattle.call_error.specs.CallErrors.{description_check}
-use Rattle.call_error.specs.declared.Checked.TheVariants.{Passed}
 use Rattle.cmd_fields.specs.Commands.{Pair, Request, read, write, write_masked, options, information, reserve, update_complete}
 use Rattle.cmd_decode.specs.Decoding.{Reading, rejected, request, decode}
 use Rattle.space_reach.specs.Reach.{access, index_of}
@@ -125,4 +124,4 @@ pub record AddsUp (x : Fixed) (m : ℕ) : Type 0 where
       effect_of_all x.spaces m (ds ++ es) ≡ together (effect_of_all x.spaces m ds) (effect_of_all x.spaces m es)
 
 abbrev pub OnGoodBoards : (Fixed → ℕ → Type 0) → Type 0
-OnGoodBoards P = (x : Fixed) (m : ℕ) → description_check x.alias x.spaces (length x.flash) m ≡ Passed → P x m
+OnGoodBoards P = (x : Fixed) (m : ℕ) → description_check x.alias x.spaces (length x.flash) m ≡ Ok tt → P x m

@@ -3,10 +3,8 @@
 use Prim.Native.Nat.{ℕ, ◌≤◌}
 use mathlib.Core.Path.{◌≡◌, refl, sym, ap, ◌∙◌}
 use mathlib.Core.List.{List}
-use Rattle.call_error.specs.CallErrors.{or_else}
+use Rattle.call_error.specs.CallErrors.{or_else, Checked}
 use Rattle.call_error.specs.declared.CallError.{CallError}
-use Rattle.call_error.specs.declared.Checked.{Checked}
-use Rattle.call_error.specs.declared.Checked.TheVariants.{Passed, Failed}
 use Rattle.can_frame.specs.Frame.{CanFrame}
 use Rattle.rx_place_spec.specs.State.{State}
 use Rattle.rx_spec.specs.Reception.{Joined, receive}
@@ -24,9 +22,10 @@ use Rattle.node_spec.specs.CallerErrors.{earlier_check, later_check, frame_check
 use Rattle.node_spec.specs.FrameCall.{handler, frame_call, Answers, answer_call, Keeps, SmallFrame, FrameChanges}
 use Rattle.node_spec.specs.declared.FrameAnswer.{FrameAnswer}
 use Rattle.node_spec.proofs.CallLaws.{call-refused, call-passed, earlier_passes, event-small, event-changes}
+use Rattle.std.specs.Prelude.{Ok, Err}
 
 module _ (x : Fixed) (buffer : List ℕ) (now : ℕ) (xs pool : List ℕ) (c : Contents) (f : CanFrame)
-    (q : earlier_check x c buffer ≡ Passed) {later : Checked} (l : later ≡ later_check x c) {o : JoinResult} {after bytes : List ℕ}
+    (q : earlier_check x c buffer ≡ Ok tt) {later : Checked} (l : later ≡ later_check x c) {o : JoinResult} {after bytes : List ℕ}
     (g : JoinEnds (or_else (state_check (state_in xs pool)) later) (receive x.alias now (state_in xs pool) f) f.payload o xs after pool bytes) where
   abbrev st : State
   st = state_in xs pool
@@ -48,7 +47,7 @@ module _ (x : Fixed) (buffer : List ℕ) (now : ℕ) (xs pool : List ℕ) (c : C
   comes = go (or_else (state_check st) later) refl
     where
       go : (checked : Checked) → or_else (state_check st) later ≡ checked → Comes
-      go Passed e =
+      go (Ok tt) e =
           let j : Joined = receive x.alias now st f in
           let k : call ≡ answer_event (handler x) j.state c j.event = call-passed x buffer now st c f (behind ∙ e) in
           let s : call.state ≡ j.state = ap (λ (y : FrameResult CallError Contents Result). y.state) k ∙ answered-state CallError (handler x) j.state c j.event in
@@ -57,7 +56,7 @@ module _ (x : Fixed) (buffer : List ℕ) (now : ℕ) (xs pool : List ℕ) (c : C
             answered = k ∙ ap (λ (y : CallEvent). answer_call x j.state c y) (sym n.event) ∙ ap (λ (y : State). answer_call x y c (event_of o f.payload bytes)) (sym s);
             kept = rw s (record { places = n.places; renewal = n.renewal; pool = n.pool });
           }
-      go (Failed error) e =
+      go (Err error) e =
           let k : call ≡ frame_result st c (caller_error error) = call-refused x buffer now st c f (behind ∙ e) in
           let n = g.refuses error e in
           record {

@@ -22,7 +22,7 @@ mod frames;
 fn check_later() -> Checked
     ensures { (x : Fixed) (c : Contents) → result ≡ later_check x c }
 {
-    Checked::Passed
+    Ok(())
 }
 
 // Handles a frame that came from the bus at a tick. The caller's errors come first: those before B7 here, and B7 with
@@ -46,7 +46,7 @@ pub fn handle_frame(
     ensures theorems { NodeTheorems (board_of alias write_lengths spaces flash) }
 {
     let checked = call_check::check_call(alias, spaces, flash.len(), memory.len(), reply.len());
-    if let Checked::Failed(error) = checked {
+    if let Err(error) = checked {
         return FrameAnswer::Refused(error);
     }
     let later = check_later();
@@ -79,7 +79,7 @@ pub fn handle_datagram(
     ensures { DatagramEnds alias write_lengths spaces flash memory registers datagram reply result }
 {
     let checked = call_check::check_call(alias, spaces, flash.len(), memory.len(), reply.len());
-    if let Checked::Failed(error) = checked {
+    if let Err(error) = checked {
         return Handled::Refused(error);
     }
     let answer = exec_datagram::handle(

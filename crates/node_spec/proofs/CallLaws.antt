@@ -7,10 +7,8 @@ use mathlib.Core.List.{List}
 use native.Mathlib.Omega.{arith}
 use lib.ListN.{length}
 use borrow.Author.Tests.{le-ltb}
-use Rattle.call_error.specs.CallErrors.{or_else, unless_failed}
+use Rattle.call_error.specs.CallErrors.{or_else, unless_failed, Checked}
 use Rattle.call_error.specs.declared.CallError.{CallError}
-use Rattle.call_error.specs.declared.Checked.{Checked}
-use Rattle.call_error.specs.declared.Checked.TheVariants.{Passed, Failed}
 use Rattle.can_frame.specs.Frame.{CanFrame}
 use Rattle.rx_place_spec.specs.State.{State}
 use Rattle.rx_spec.specs.Reception.{sound}
@@ -41,6 +39,7 @@ use Rattle.node_spec.specs.TickCall.{tick_call, tick_answer}
 use Rattle.node_spec.specs.NodeOrder.{Call, frame_at, lone_tick_at, heard_of, BufferFits, make_call, MemoryFits, NodeOrder, OwnCall, make_own, NodeAging, NodeSource, NodeTheorems}
 use Rattle.node_spec.specs.declared.FrameAnswer.{FrameAnswer}
 use Rattle.node_spec.specs.declared.FrameAnswer.TheVariants.{Answered}
+use Rattle.std.specs.Prelude.{Ok, Err}
 
 -- ---- memory keeps its size
 
@@ -71,7 +70,7 @@ answers-finish x c d buffer h p st =
 -- the numbers of an answer, and what it says of memory
 
 module _ (x : Fixed) (c : Contents) (st : State) {r : FrameAnswer} {before after : List ℕ} {left : Contents} where
-  pub event-small : (buffer : List ℕ) → earlier_check x c buffer ≡ Passed → (e : CallEvent) → Answers (answer_call x st c e) r before after left → SmallFrame r
+  pub event-small : (buffer : List ℕ) → earlier_check x c buffer ≡ Ok tt → (e : CallEvent) → Answers (answer_call x st c e) r before after left → SmallFrame r
   event-small buffer g (refused_by error) p = rw p.answer tt
   event-small buffer g (brings ignored) p = rw p.answer tt
   event-small buffer g (brings no_answer) p = rw p.answer tt
@@ -92,36 +91,36 @@ module _ (st : State) (c : Contents) (done : FrameResult CallError Contents Resu
   checked_call checked = unless_failed checked (λ error. frame_result st c (caller_error error)) done
 
   -- one that is not refused has no error
-  unrefused_passed : (checked : Checked) → is_caller_error (checked_call checked).answer ≡ false → checked ≡ Passed
-  unrefused_passed Passed h = refl
-  unrefused_passed (Failed error) h = clash h
+  unrefused_passed : (checked : Checked) → is_caller_error (checked_call checked).answer ≡ false → checked ≡ Ok tt
+  unrefused_passed (Ok u) h = refl
+  unrefused_passed (Err error) h = clash h
 
   -- one that is refused has one, and leaves the reception state
   refused_stays : is_caller_error done.answer ≡ false → (checked : Checked) → is_caller_error (checked_call checked).answer ≡ true → (checked_call checked).state ≡ st
-  refused_stays f Passed h = clash (sym h ∙ f)
-  refused_stays f (Failed error) h = refl
+  refused_stays f (Ok u) h = clash (sym h ∙ f)
+  refused_stays f (Err error) h = refl
 
 module _ (x : Fixed) (buffer : List ℕ) (now : ℕ) (st : State) (c : Contents) (f : CanFrame) where
-  pub call-refused : {error : CallError} → frame_check x buffer st c ≡ Failed error → frame_call x buffer now st c f ≡ frame_result st c (caller_error error)
+  pub call-refused : {error : CallError} → frame_check x buffer st c ≡ Err error → frame_call x buffer now st c f ≡ frame_result st c (caller_error error)
   unfolding frame_call
   call-refused e = rw e
 
-  pub call-passed : frame_check x buffer st c ≡ Passed → frame_call x buffer now st c f ≡ handle_frame (handler x) x.alias now st c f
+  pub call-passed : frame_check x buffer st c ≡ Ok tt → frame_call x buffer now st c f ≡ handle_frame (handler x) x.alias now st c f
   unfolding frame_call
   call-passed e = rw e
 
 module _ (x : Fixed) (buffer : List ℕ) (st : State) (c : Contents) where
   -- what comes before B7
-  pub earlier_fails : {error : CallError} → earlier_check x c buffer ≡ Failed error → frame_check x buffer st c ≡ Failed error
+  pub earlier_fails : {error : CallError} → earlier_check x c buffer ≡ Err error → frame_check x buffer st c ≡ Err error
   unfolding frame_check
   earlier_fails e = rw e
 
-  pub earlier_passes : earlier_check x c buffer ≡ Passed → frame_check x buffer st c ≡ or_else (state_check st) (later_check x c)
+  pub earlier_passes : earlier_check x c buffer ≡ Ok tt → frame_check x buffer st c ≡ or_else (state_check st) (later_check x c)
   unfolding frame_check
   earlier_passes e = rw e
 
   -- a call that passes has a state that B7 lets pass
-  frame-sound : frame_check x buffer st c ≡ Passed → sound st.places ≡ true
+  frame-sound : frame_check x buffer st c ≡ Ok tt → sound st.places ≡ true
   unfolding frame_check
   frame-sound e =
       let behind = (or_else_passed (earlier_check x c buffer) (or_else (state_check st) (later_check x c)) e).1 in
@@ -135,7 +134,7 @@ tick-small false = tt
 
 -- ---- demand 3
 
-check-passed : (x : Fixed) (buffer : List ℕ) (st : State) (c : Contents) → MemoryFits x c → 72 ≤ length buffer → sound st.places ≡ true → frame_check x buffer st c ≡ Passed
+check-passed : (x : Fixed) (buffer : List ℕ) (st : State) (c : Contents) → MemoryFits x c → 72 ≤ length buffer → sound st.places ≡ true → frame_check x buffer st c ≡ Ok tt
 unfolding frame_check earlier_check
 check-passed x buffer st c g h ok = rw (g, le-ltb (length buffer) 72 h, sound-passes st ok)
 

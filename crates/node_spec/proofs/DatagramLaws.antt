@@ -8,10 +8,8 @@ use lib.Dec.{ltb}
 use lib.ListN.{length}
 use borrow.Author.Tests.{ltb-false}
 use Rattle.buffer.proofs.Choice.{cond-not}
-use Rattle.call_error.specs.CallErrors.{or_else, description_check}
+use Rattle.call_error.specs.CallErrors.{or_else, description_check, Checked}
 use Rattle.call_error.specs.declared.CallError.{CallError}
-use Rattle.call_error.specs.declared.Checked.{Checked}
-use Rattle.call_error.specs.declared.Checked.TheVariants.{Passed, Failed}
 use Rattle.call_error.proofs.Laws.{bad, or_else_passed, good-memory}
 use Rattle.call_check.specs.Calls.{buffer_check, call_check}
 use Rattle.reply_answer.specs.Answers.{Result, datagram_rejected, written, update_completed, received_ok_reply, answer_of, buffer_of, fitted, SmallAnswer}
@@ -22,17 +20,18 @@ use Rattle.exec_spec.proofs.HandlingLaws.{whole, handle-bounds}
 use Rattle.node_spec.specs.CallerErrors.{earlier_check, datagram_check}
 use Rattle.node_spec.specs.DatagramCall.{datagram_call, EndsAs}
 use Rattle.node_spec.specs.declared.Handled.TheVariants.{Refused, Answered}
+use Rattle.std.specs.Prelude.{Ok, Err}
 
 -- ---- no error of the caller
 
-module _ (x : Fixed) (c : Contents) (buffer : List ℕ) (g : earlier_check x c buffer ≡ Passed) where
+module _ (x : Fixed) (c : Contents) (buffer : List ℕ) (g : earlier_check x c buffer ≡ Ok tt) where
   pub passed-buffer : 72 ≤ length buffer
   unfolding earlier_check
   passed-buffer =
       let e = (or_else_passed (description_check x.alias x.spaces (length x.flash) (length c.memory)) (buffer_check (length buffer)) g).1 in
       ltb-false (length buffer) 72 (cond-not (ltb (length buffer) 72) e (bad refl)).0
 
-  pub passed-description : description_check x.alias x.spaces (length x.flash) (length c.memory) ≡ Passed
+  pub passed-description : description_check x.alias x.spaces (length x.flash) (length c.memory) ≡ Ok tt
   unfolding earlier_check
   passed-description = (or_else_passed (description_check x.alias x.spaces (length x.flash) (length c.memory)) (buffer_check (length buffer)) g).0
 
@@ -50,9 +49,9 @@ pub datagram_check_lem : (x : Fixed) (c : Contents) (buffer : List ℕ) → data
 unfolding datagram_check
 datagram_check_lem x c buffer = go (earlier_check x c buffer)
   where
-    go : (checked : Checked) → or_else checked Passed ≡ checked
-    go Passed = refl
-    go (Failed error) = refl
+    go : (checked : Checked) → or_else checked (Ok tt) ≡ checked
+    go (Ok u) = refl
+    go (Err error) = refl
 
 -- ---- the numbers of an answer
 
@@ -62,7 +61,7 @@ small-in (written index n) m s i h = (omega arith, s)
 small-in update_completed m s i h = tt
 small-in (received_ok_reply reply) m s i h = s
 
-pub answer-small : (x : Fixed) (c : Contents) (d buffer : List ℕ) → earlier_check x c buffer ≡ Passed → Short (handle x c d).result →
+pub answer-small : (x : Fixed) (c : Contents) (d buffer : List ℕ) → earlier_check x c buffer ≡ Ok tt → Short (handle x c d).result →
     SmallAnswer (answer_of (handle x c d).result)
 answer-small x c d buffer g s =
     small-in (handle x c d).result (length c.memory) s ((handle-bounds x c d).inside (passed-description x c buffer g)) (passed-memory x c buffer g)
@@ -70,11 +69,11 @@ answer-small x c d buffer g s =
 -- ---- the call, by what the check finds
 
 module _ (x : Fixed) (c : Contents) (d buffer : List ℕ) where
-  pub call-refused : {error : CallError} → earlier_check x c buffer ≡ Failed error → EndsAs (datagram_call x c d buffer) (Refused error) buffer c
+  pub call-refused : {error : CallError} → earlier_check x c buffer ≡ Err error → EndsAs (datagram_call x c d buffer) (Refused error) buffer c
   unfolding datagram_call
   call-refused e = rw (datagram_check_lem x c buffer, e) (record { handled = refl; reply = refl; contents = refl })
 
-  module _ (good : earlier_check x c buffer ≡ Passed) {r : Answer} {after : List ℕ} {left : Contents} (p : Performs (handle x c d) r buffer after left) where
+  module _ (good : earlier_check x c buffer ≡ Ok tt) {r : Answer} {after : List ℕ} {left : Contents} (p : Performs (handle x c d) r buffer after left) where
     fits : fitted (handle x c d).result buffer ≡ (handle x c d).result
     fits = whole (handle x c d).result buffer p.short (passed-buffer x c buffer good)
 

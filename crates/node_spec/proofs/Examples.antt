@@ -11,7 +11,6 @@ use Rattle.buffer.proofs.Choice.{clash}
 use Rattle.space_table.specs.declared.Space.{Space}
 use Rattle.call_error.specs.CallErrors.{among, spaces_check, description_check}
 use Rattle.call_error.specs.declared.CallError.TheVariants.{B6ReplyBufferTooShort, B7BadReceptionState}
-use Rattle.call_error.specs.declared.Checked.TheVariants.{Passed, Failed}
 use Rattle.can_frame.specs.Frame.{CanFrame, can_frame, kind_of_frame, addressed, role_of}
 use Rattle.rx_place_spec.specs.Place.{Place, held_for}
 use Rattle.rx_place_spec.specs.Ticks.{tick_at, age, is_due, drop_due}
@@ -30,6 +29,7 @@ use Rattle.node_spec.specs.FrameCall.{handler, frame_call}
 use Rattle.node_spec.specs.TickCall.{tick_call}
 use Rattle.node_spec.specs.NodeOrder.{Call, frame_at, lone_tick_at, heard_of, BufferFits, make_call, OwnCall, make_own}
 use Rattle.node_spec.proofs.CallLaws.{node_theorems}
+use Rattle.std.specs.Prelude.{Ok, Err}
 
 -- n bytes
 zeros : ℕ → List ℕ
@@ -53,7 +53,7 @@ board : List ℕ → Fixed
 board flash = fixed 0x123 0 sixteen flash
 
 -- flash of 65,536 bytes, and as much memory
-no_error : (flash : List ℕ) → length flash ≡ 65536 → description_check (board flash).alias (board flash).spaces (length (board flash).flash) 65536 ≡ Passed
+no_error : (flash : List ℕ) → length flash ≡ 65536 → description_check (board flash).alias (board flash).spaces (length (board flash).flash) 65536 ≡ Ok tt
 unfolding board sixteen wide description_check spaces_check among
 no_error flash e = rw e
 
@@ -149,7 +149,7 @@ twice : State
 twice = state (held_for 5 0 0 ∷ held_for 5 0 0 ∷ []) []
 
 -- B6 comes before B7
-b6_first : (c : Contents) → length c.memory ≡ 0 → frame_check small (zeros 71) twice c ≡ Failed B6ReplyBufferTooShort
+b6_first : (c : Contents) → length c.memory ≡ 0 → frame_check small (zeros 71) twice c ≡ Err B6ReplyBufferTooShort
 unfolding small zeros frame_check earlier_check description_check spaces_check
 b6_first c e = rw e
 
@@ -163,6 +163,6 @@ unfolding twice is_for tick_call tick_check
 b7_of_a_tick c = refl
 
 -- a whole datagram brings no reception state
-no_b7_of_a_datagram : (c : Contents) → length c.memory ≡ 0 → datagram_check small c (zeros 72) ≡ Passed
+no_b7_of_a_datagram : (c : Contents) → length c.memory ≡ 0 → datagram_check small c (zeros 72) ≡ Ok tt
 unfolding small zeros datagram_check earlier_check description_check spaces_check
 no_b7_of_a_datagram c e = rw e

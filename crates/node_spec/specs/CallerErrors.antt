@@ -1,10 +1,8 @@
 -- Document 01, "Refused because of the input", and document 02: the errors of the caller at each call, in the order in
 -- which they are asked for. "House numbers, returned to the caller and never sent, checked first at each call; nothing
 -- changes."
-use Rattle.std.specs.Prelude.{ℕ, List, length}
-use Rattle.call_error.specs.CallErrors.{or_else}
-use Rattle.call_error.specs.declared.Checked.{Checked}
-use Rattle.call_error.specs.declared.Checked.TheVariants.{Passed}
+use Rattle.std.specs.Prelude.{ℕ, List, length, Ok}
+use Rattle.call_error.specs.CallErrors.{or_else, Checked}
 use Rattle.call_check.specs.Calls.{call_check}
 use Rattle.rx_place_spec.specs.State.{State}
 use Rattle.rx_join_spec.specs.StateCheck.{state_check}
@@ -20,7 +18,7 @@ earlier_check x c buffer =
 -- What comes after B7, which is `state_check`: nothing yet. Here B10, "after B7", B8, "after B10", and B15, "after B8",
 -- find their place.
 abbrev pub later_check : Fixed → Contents → Checked
-later_check x c = Passed
+later_check x c = Ok tt
 
 -- ---- the first that applies at each call
 

@@ -1,9 +1,8 @@
 -- Demand 3 of document 01, with C-14 and C-15 of document 02: the calls of a driver, the order statement over a list of
 -- them, what becomes of unfinished datagrams that grow old, and that each tool is answered by its book.
-use Rattle.std.specs.Prelude.{ℕ, ◌≤◌, List, ◌≡◌, length}
+use Rattle.std.specs.Prelude.{ℕ, ◌≤◌, List, ◌≡◌, length, Ok}
 use Rattle.call_error.specs.CallErrors.{description_check}
 use Rattle.call_error.specs.declared.CallError.{CallError}
-use Rattle.call_error.specs.declared.Checked.TheVariants.{Passed}
 use Rattle.can_frame.specs.Frame.{CanFrame}
 use Rattle.rx_place_spec.specs.Ticks.{tick_at}
 use Rattle.rx_spec.specs.Times.{frame_input, lone_tick, Timed, timed}
@@ -38,7 +37,7 @@ make_call x st c (lone_tick_at t) = tick_call (tick_at t) st c
 
 -- The description has no error with the memory that is there.
 abbrev pub MemoryFits : Fixed → Contents → Type 0
-MemoryFits x c = description_check x.alias x.spaces (length x.flash) (length c.memory) ≡ Passed
+MemoryFits x c = description_check x.alias x.spaces (length x.flash) (length c.memory) ≡ Ok tt
 
 -- What is asked of a list of calls: the description has no error with flash and memory, each frame has a buffer of at
 -- least 72 bytes, and the rest is what the order statement asks of any calls.

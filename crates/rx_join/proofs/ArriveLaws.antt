@@ -17,15 +17,14 @@ use Rattle.rx_place_spec.specs.PlaceBytes.{places_in, state_in, renewed}
 use Rattle.rx_spec.proofs.PlaceLaws.{is_for-held, is_for-source, is_for-free, Good, sound-good, place_found, place_out}
 use Rattle.rx_place_spec.proofs.ByteLaws.{places-length}
 use Rattle.rx_spec.proofs.DropLaws.{by-due, after-not, none-due, length-due}
-use Rattle.call_error.specs.CallErrors.{or_else}
+use Rattle.call_error.specs.CallErrors.{or_else, Checked}
 use Rattle.call_error.proofs.Laws.{or_else_passed}
 use Rattle.call_error.specs.declared.CallError.TheVariants.{B7BadReceptionState}
-use Rattle.call_error.specs.declared.Checked.{Checked}
-use Rattle.call_error.specs.declared.Checked.TheVariants.{Passed, Failed}
 use Rattle.rx_join_spec.specs.StateCheck.{state_check}
 use Rattle.rx_join_spec.proofs.CheckLaws.{passed-sound}
 use Rattle.rx_search.specs.declared.Looked.{Looked}
 use Rattle.rx_search.specs.Search.{any_due, looked, looked_up}
+use Rattle.std.specs.Prelude.{Ok, Err}
 
 -- nothing is due, and nothing is dropped
 none_dropped : (now : ℕ) (ps : List Place) → any_due now ps ≡ false → drop_due now ps ≡ ps
@@ -76,7 +75,7 @@ module _ (s now : ℕ) (xs : List ℕ) (l : Looked) (e : l ≡ looked_up s now (
       (λ u. omega (arith, places-length xs, place_out s ps u))
 
   -- B7, and what comes after it
-  b7_is : (pool : List ℕ) → cond (eqb l.found 9) (Failed B7BadReceptionState) Passed ≡ state_check (state_in xs pool)
+  b7_is : (pool : List ℕ) → cond (eqb l.found 9) (Err B7BadReceptionState) (Ok tt) ≡ state_check (state_in xs pool)
   b7_is pool =
       by-test (sound ps)
       (λ q. let z = at_most in
@@ -84,7 +83,7 @@ module _ (s now : ℕ) (xs : List ℕ) (l : Looked) (e : l ≡ looked_up s now (
       rw (ne_eqb l.found 9 (λ y. omega (arith, y, z, f)), q))
       (λ q. rw (eq-eqb l.found 9 (ap (λ (v : Looked). v.found) (by-sound false q)), q))
 
-  pub first-error_is : (pool : List ℕ) (later : Checked) → or_else (cond (eqb l.found 9) (Failed B7BadReceptionState) Passed) later ≡ or_else (state_check (state_in xs pool)) later
+  pub first-error_is : (pool : List ℕ) (later : Checked) → or_else (cond (eqb l.found 9) (Err B7BadReceptionState) (Ok tt)) later ≡ or_else (state_check (state_in xs pool)) later
   first-error_is pool later = ap (λ (c : Checked). or_else c later) (b7_is pool)
 
   -- the place that is found and what is left, where B7 lets the places pass
@@ -109,15 +108,15 @@ module _ (s now : ℕ) (xs : List ℕ) (l : Looked) (e : l ≡ looked_up s now (
 
   -- no error applies, so B7 lets the places pass, and the drop left what it says
   pub record Passes (pool : List ℕ) (later : Checked) (r : ℕ) (after : List ℕ) : Type 0 where
-    pub none : or_else (state_check (state_in xs pool)) later ≡ Passed
+    pub none : or_else (state_check (state_in xs pool)) later ≡ Ok tt
     pub ok : sound ps ≡ true
     pub left : Arrives r after
 
   pub passes : (pool : List ℕ) (later : Checked) {checked : Checked} →
-      checked ≡ or_else (cond (eqb l.found 9) (Failed B7BadReceptionState) Passed) later → checked ≡ Passed →
+      checked ≡ or_else (cond (eqb l.found 9) (Err B7BadReceptionState) (Ok tt)) later → checked ≡ Ok tt →
       {r : ℕ} {after : List ℕ} → r ≡ cond l.due (cond (get_or (places_in after) l.found free_place).held l.found 8) l.found →
       places_in after ≡ cond l.due (drop_due now ps) ps → after ≡ renewed (cond l.due (drop_due now ps) ps) xs → Passes pool later r after
   passes pool later q p f g b =
-      let n : or_else (state_check (state_in xs pool)) later ≡ Passed = sym (q ∙ first-error_is pool later) ∙ p in
+      let n : or_else (state_check (state_in xs pool)) later ≡ Ok tt = sym (q ∙ first-error_is pool later) ∙ p in
       let ok : sound ps ≡ true = passed-sound (state_in xs pool) (or_else_passed (state_check (state_in xs pool)) later n).0 in
       record { none = n; ok = ok; left = arrived ok f g b }

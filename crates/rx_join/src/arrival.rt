@@ -1,9 +1,8 @@
 // What is done before a frame is looked at: the caller's errors from B7 on are asked, by what the search found, and then
 // what is due at its tick is dropped.
-ghost use Rattle.std.specs.Prelude.{◌≡◌, cond, eqb, get_or};
+ghost use Rattle.std.specs.Prelude.{◌≡◌, cond, eqb, get_or, Ok, Err};
 ghost use Rattle.call_error.specs.CallErrors.{or_else};
 ghost use Rattle.call_error.specs.declared.CallError.TheVariants as error;
-ghost use Rattle.call_error.specs.declared.Checked.TheVariants as checked;
 ghost use Rattle.rx_place_spec.specs.Place.{free_place};
 ghost use Rattle.rx_place_spec.specs.Ticks.{drop_due};
 ghost use Rattle.rx_place_spec.specs.PlaceBytes.{places_in, renewed};
@@ -13,10 +12,10 @@ use call_error::{CallError, Checked};
 
 // The first error that applies from B7 on, where `later` is what comes after B7.
 pub fn first_error(found: usize, later: Checked) -> Checked
-    ensures { result ≡ or_else (cond (eqb found unsound) (checked.Failed error.B7BadReceptionState) checked.Passed) later }
+    ensures { result ≡ or_else (cond (eqb found unsound) (Err error.B7BadReceptionState) (Ok tt)) later }
 {
     if found == rx_search::UNSOUND {
-        return Checked::Failed(CallError::B7BadReceptionState);
+        return Err(CallError::B7BadReceptionState);
     }
     later
 }

@@ -43,7 +43,7 @@ pub fn join(
     let source = can_frame::source_of(header);
     let looked = rx_search::look_up(places, source, tick);
     let checked = arrival::first_error(looked.found, later);
-    if let Checked::Failed(error) = checked {
+    if let Err(error) = checked {
         return JoinResult::Refused(error);
     }
     let i = arrival::arrive(places, looked.found, looked.due, tick);

@@ -5,11 +5,9 @@ use mathlib.Core.Bool.{true, false}
 use mathlib.Core.List.{List}
 use Prim.Native.Nat.{ℕ}
 use Rattle.buffer.proofs.Choice.{by-test}
-use Rattle.call_error.specs.CallErrors.{or_else}
+use Rattle.call_error.specs.CallErrors.{or_else, Checked}
 use Rattle.call_error.specs.declared.CallError.{CallError}
 use Rattle.call_error.specs.declared.CallError.TheVariants.{B7BadReceptionState}
-use Rattle.call_error.specs.declared.Checked.{Checked}
-use Rattle.call_error.specs.declared.Checked.TheVariants.{Passed, Failed}
 use Rattle.call_error.proofs.Laws.{bad}
 use Rattle.rx_place_spec.specs.State.{State}
 use Rattle.rx_spec.specs.Reception.{sound, Joined}
@@ -17,24 +15,25 @@ use Rattle.rx_join_spec.specs.declared.JoinResult.{JoinResult}
 use Rattle.rx_join_spec.specs.declared.JoinResult.TheVariants as outcome
 use Rattle.rx_join_spec.specs.StateCheck.{state_check}
 use Rattle.rx_join_spec.specs.Joins.{InsidePool, Joins, JoinEnds}
+use Rattle.std.specs.Prelude.{Ok, Err}
 
 -- ---- B7, and what comes after it
 
-same-error : {a b : CallError} → ◌≡◌ {A = Checked} (Failed a) (Failed b) → a ≡ b
+same-error : {a b : CallError} → ◌≡◌ {A = Checked} (Err a) (Err b) → a ≡ b
 same-error e = cc
 
 module _ (st : State) where
-  pub sound-passes : sound st.places ≡ true → state_check st ≡ Passed
+  pub sound-passes : sound st.places ≡ true → state_check st ≡ Ok tt
   sound-passes e = rw e
 
-  pub unsound-fails : sound st.places ≡ false → state_check st ≡ Failed B7BadReceptionState
+  pub unsound-fails : sound st.places ≡ false → state_check st ≡ Err B7BadReceptionState
   unsound-fails e = rw e
 
-  pub passed-sound : state_check st ≡ Passed → sound st.places ≡ true
+  pub passed-sound : state_check st ≡ Ok tt → sound st.places ≡ true
   passed-sound q = by-test (sound st.places) (λ e. e) (λ e. absurd (bad refl (sym (unsound-fails e) ∙ q)))
 
   -- the second passes, so an error is B7
-  pub only-b7 : {error : CallError} → or_else (state_check st) Passed ≡ Failed error → error ≡ B7BadReceptionState
+  pub only-b7 : {error : CallError} → or_else (state_check st) (Ok tt) ≡ Err error → error ≡ B7BadReceptionState
   only-b7 q =
       by-test (sound st.places)
       (λ e. absurd (bad refl (sym q ∙ rw (sound-passes e))))
@@ -43,7 +42,7 @@ module _ (st : State) where
 -- ---- what `join` owes
 
 module _ {j : Joined} {d : List ℕ} {checked : Checked} where
-  pub refused_ends : {error : CallError} {xs pool : List ℕ} → checked ≡ Failed error → JoinEnds checked j d (outcome.Refused error) xs xs pool pool
+  pub refused_ends : {error : CallError} {xs pool : List ℕ} → checked ≡ Err error → JoinEnds checked j d (outcome.Refused error) xs xs pool pool
   refused_ends e =
       record {
         refuses = λ x q. record { result = ap outcome.Refused (same-error (sym e ∙ q)); places-stay = refl; pool-stays = refl };
@@ -51,7 +50,7 @@ module _ {j : Joined} {d : List ℕ} {checked : Checked} where
       }
 
   module _ {o : JoinResult} {xs after pool bytes : List ℕ} where
-    pub joined-ends : checked ≡ Passed → Joins j d o xs after bytes → JoinEnds checked j d o xs after pool bytes
+    pub joined-ends : checked ≡ Ok tt → Joins j d o xs after bytes → JoinEnds checked j d o xs after pool bytes
     joined-ends e g = record { refuses = λ x q. absurd (bad refl (sym q ∙ e)); joins = λ q. g }
 
     -- a finished datagram in the pool lies inside it
@@ -59,5 +58,5 @@ module _ {j : Joined} {d : List ℕ} {checked : Checked} where
     ends-inside n = go checked refl
       where
         go : (c : Checked) → checked ≡ c → InsidePool o
-        go Passed e = (n.joins e).inside
-        go (Failed error) e = rw (n.refuses error e).result tt
+        go (Ok u) e = (n.joins e).inside
+        go (Err error) e = rw (n.refuses error e).result tt

@@ -1,15 +1,14 @@
 -- What the code gives back for a frame: the call is refused because of an error of the caller, or the frame is joined.
-use Rattle.std.specs.Prelude.{ℕ, ◌*◌, ◌-◌, ◌≤◌, ◌≡◌, List, take, drop}
+use Rattle.std.specs.Prelude.{ℕ, ◌*◌, ◌-◌, ◌≤◌, ◌≡◌, List, take, drop, Ok, Err}
 use Rattle.can_frame.specs.declared.Role.{Role}
 use Rattle.can_frame.specs.declared.Role.TheVariants.{Single, Last}
 use Rattle.call_error.specs.declared.CallError.{CallError}
-use Rattle.call_error.specs.declared.Checked.{Checked}
-use Rattle.call_error.specs.declared.Checked.TheVariants.{Passed, Failed}
 use Rattle.rx_spec.specs.Books.{Event, ignored, no_answer, refuse, finish}
 use Rattle.rx_spec.specs.Reception.{Joined}
 use Rattle.rx_place_spec.specs.PlaceBytes.{places_in, renewed}
 use Rattle.rx_join_spec.specs.declared.JoinResult.{JoinResult}
 use Rattle.rx_join_spec.specs.declared.JoinResult.TheVariants as outcome
+use Rattle.call_error.specs.CallErrors.{Checked}
 
 -- What comes of a call for a frame: an error of the caller refuses it, or the frame brings something about.
 pub data CallEvent : Type 0 where
@@ -63,5 +62,5 @@ pub record Refuses (error : CallError) (o : JoinResult) (before after pool bytes
 -- joined.
 pub record JoinEnds (checked : Checked) (j : Joined) (d : List ℕ) (o : JoinResult)
     (before after pool bytes : List ℕ) : Type 0 where
-  pub refuses : (error : CallError) → checked ≡ Failed error → Refuses error o before after pool bytes
-  pub joins : checked ≡ Passed → Joins j d o before after bytes
+  pub refuses : (error : CallError) → checked ≡ Err error → Refuses error o before after pool bytes
+  pub joins : checked ≡ Ok tt → Joins j d o before after bytes

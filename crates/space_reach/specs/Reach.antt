@@ -1,8 +1,7 @@
 -- Document 01, "Refused because of the state": what a read or a write reaches, or the code of its failure.
-use Rattle.std.specs.Prelude.{ℕ, ◌+◌, ◌-◌, ◌≤◌, ◌≡◌, Bool, true, cond, ◌&&◌, List, leb}
+use Rattle.std.specs.Prelude.{ℕ, ◌+◌, ◌-◌, ◌≤◌, ◌≡◌, Bool, true, cond, ◌&&◌, List, leb, Ok}
 use Rattle.space_lookup.specs.Description.{find_space}
 use Rattle.call_error.specs.CallErrors.{description_check}
-use Rattle.call_error.specs.declared.Checked.TheVariants.{Passed}
 use Rattle.space_table.specs.declared.Space.{Space}
 use Rattle.space_lookup.specs.declared.Found.{Found}
 use Rattle.space_lookup.specs.declared.Found.TheVariants.{Described, Empty, Unknown}
@@ -29,5 +28,5 @@ index_of s address = s.offset + (address - s.lowest)
 -- and not left out.
 abbrev pub WritesFit : Type 0
 WritesFit =
-    (alias : ℕ) (spaces : List Space) (flash memory number address n : ℕ) (s : Space) → description_check alias spaces flash memory ≡ Passed
+    (alias : ℕ) (spaces : List Space) (flash memory number address n : ℕ) (s : Space) → description_check alias spaces flash memory ≡ Ok tt
     → access true (find_space spaces number) address n ≡ Reaches s → index_of s address + n ≤ memory

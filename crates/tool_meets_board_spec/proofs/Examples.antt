@@ -12,7 +12,6 @@ use Rattle.cmd_fields.specs.declared.Form.TheVariants.{NoSpace, Byte6}
 use Rattle.space_table.specs.declared.Space.{Space}
 use Rattle.space_lookup.specs.Description.{find_space, lowest_number}
 use Rattle.call_error.specs.CallErrors.{among, spaces_check, description_check}
-use Rattle.call_error.specs.declared.Checked.TheVariants.{Passed}
 use Rattle.exec_lock.specs.Lock.{all_zero, lock_after, test_and_set}
 use Rattle.reply_spec.specs.ReplyForms.{no_text, lowest, lowest_address, Reply, read, read_failure, write_failure, options, information, locked}
 use Rattle.reply_datagram.specs.Inquiry.{information_reply}
@@ -23,6 +22,7 @@ use Rattle.exec_spec.specs.Access.{read_result, write_result}
 use Rattle.exec_spec.specs.Performing.{Fixed, fixed, Contents, contents, perform}
 use Rattle.tool_read_spec.specs.Finding.{first_zero, is_text, kind_of_reply, find_read, failure_fits, find_read_failure, find_write_failure, find_options, find_information, find_locked, find_kind, find_reply, reply_found}
 use Rattle.tool_meets_board_spec.specs.Meeting.{ReadBack, Acknowledges}
+use Rattle.std.specs.Prelude.{Ok}
 
 -- A board with one space of two addresses, from 16 on, and a lock that nobody holds.
 abbrev space : Space
@@ -34,7 +34,7 @@ board = fixed 0x123 0x70 (space ∷ []) []
 abbrev unheld : Contents
 unheld = contents (0xAA ∷ 0xBB ∷ []) registers_at_start
 
-good : description_check 0x123 (space ∷ []) 0 2 ≡ Passed
+good : description_check 0x123 (space ∷ []) 0 2 ≡ Ok tt
 unfolding description_check spaces_check among
 good = refl
 

@@ -27,7 +27,6 @@ use Rattle.space_lookup.specs.Description.{size_of, store_of}
 use Rattle.space_lookup.specs.declared.Found.{Found}
 use Rattle.space_lookup.specs.declared.Found.TheVariants.{Described, Empty, Unknown}
 use Rattle.call_error.specs.CallErrors.{description_check}
-use Rattle.call_error.specs.declared.Checked.TheVariants.{Passed}
 use Rattle.call_error.proofs.Laws.{Fine, good-find}
 use Rattle.exec_lock.specs.Lock.{test_and_set, lock_after, all_zero}
 use Rattle.reply_spec.specs.ReplyForms.{no_text, no_address, lowest_address, Reply, information, reply_bytes, bit1, WellFormed}
@@ -47,6 +46,7 @@ use Rattle.exec_spec.proofs.HandlingLaws.{perform-short}
 use Rattle.tool_read_spec.proofs.CompleteLaws.{complete}
 use Rattle.tool_meets_board_spec.specs.Meeting.{ReadBack, RepliesRead, content_of, Acknowledges, HalvesMeet}
 use Rattle.tool_meets_board_spec.proofs.NamingLaws.{Named, named}
+use Rattle.std.specs.Prelude.{Ok}
 
 -- a reply of the language is read as it is
 is_read : (y : Reply) → WellFormed y → length (reply_bytes y) ≤ 72 → ReadBack (received_ok_reply y)
@@ -73,7 +73,7 @@ module _ (flash memory : List ℕ) (form : Form) (space address count : ℕ) (n 
       is_read (read_reply form space address (bytes_read flash memory s address count)) (n, b s refl, most) h
 
 -- what a read reaches
-read_some : (x : Fixed) (c : Contents) (space address count : ℕ) → description_check x.alias x.spaces (length x.flash) (length c.memory) ≡ Passed → 1 ≤ count →
+read_some : (x : Fixed) (c : Contents) (space address count : ℕ) → description_check x.alias x.spaces (length x.flash) (length c.memory) ≡ Ok tt → 1 ≤ count →
     (s : Space) → access false (found_in x space) address 1 ≡ Reaches s → 1 ≤ length (bytes_read x.flash c.memory s address count)
 read_some x c space address count g n s e =
     let r = reached false (found_in x space) address 1 s e in
@@ -116,7 +116,7 @@ lock-six held id h k =
 
 -- ---- every request
 
-module _ (x : Fixed) (c : Contents) (form : Form) (g : description_check x.alias x.spaces (length x.flash) (length c.memory) ≡ Passed) (six : length c.registers.lock ≡ 6) where
+module _ (x : Fixed) (c : Contents) (form : Form) (g : description_check x.alias x.spaces (length x.flash) (length c.memory) ≡ Ok tt) (six : length c.registers.lock ≡ 6) where
   performed_read : (q : Request) → Allowed q → Named form q → ReadBack (perform x c form q).result
   unfolding perform WellFormed
   performed_read (asked.read space address count) a n =

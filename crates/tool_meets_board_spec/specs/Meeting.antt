@@ -1,6 +1,6 @@
 -- Where the two halves meet: whatever the board answers, the tool's readers accept, and give the fields that the board
 -- put in.
-use Rattle.std.specs.Prelude.{ℕ, ◌≡◌, true, false, List, length, take, drop}
+use Rattle.std.specs.Prelude.{ℕ, ◌≡◌, true, false, List, length, take, drop, Ok}
 use Rattle.std.proofs.Math.Option.{some}
 use Rattle.buffer.specs.Buffer.{Each}
 use Rattle.can_frame.specs.declared.Frame.{Frame}
@@ -8,7 +8,6 @@ use Rattle.cmd_fields.specs.Commands.{Request}
 use Rattle.cmd_fields.specs.declared.Form.{Form}
 use Rattle.cmd_decode.specs.Decoding.{request, decode}
 use Rattle.call_error.specs.CallErrors.{description_check}
-use Rattle.call_error.specs.declared.Checked.TheVariants.{Passed}
 use Rattle.reply_answer.specs.Answers.{Answered, datagram_rejected, written, update_completed, received_ok_reply, rejected_code, transport_of}
 use Rattle.reply_answer.specs.declared.Answer.{Answer}
 use Rattle.reply_answer.specs.declared.Answer.TheVariants as answered
@@ -35,7 +34,7 @@ ReadBack (received_ok_reply reply) = reply_found (find_reply (reply_bytes reply)
 abbrev pub RepliesRead : Type 0
 RepliesRead =
     (x : Fixed) (c : Contents) (d : List ℕ) (form : Form) (q : Request) →
-    description_check x.alias x.spaces (length x.flash) (length c.memory) ≡ Passed
+    description_check x.alias x.spaces (length x.flash) (length c.memory) ≡ Ok tt
     → length c.registers.lock ≡ 6 →
     decode d ≡ request form q → ReadBack (perform x c form q).result
 

@@ -1,14 +1,17 @@
 -- `check_call` meets its contract: the description, and then the reply buffer.
 -- Assumes nothing.
-use mathlib.Core.Path.{ap}
-use mathlib.Core.Bool.{not}
-use Rattle.space_table.specs.Table.{spaces_in}
-use Rattle.call_error.proofs.Laws.{first-counts}
-use Rattle.call_check.proofs.Laws.{call-positioned}
+use mathlib.Core.Path.{refl, sym, ◌∙◌}
+use Rattle.std.proofs.lemmas.Result.{err_from_is_err_and}
+use Rattle.call_check.proofs.Laws.{positioned_first, positioned_behind}
 use Rattle.call_check.proofs.check_call.Goals as goal
 
-pub returns-then-not-passes-clause-position : goal.returns-then-not-passes-clause-position
-returns-then-not-passes-clause-position c =
-    let a = c.args in
-    (call-positioned a.alias (spaces_in a.spaces.now) a.flash_len a.memory_len a.reply_len
-    (first-counts _ c.passes.ensures c.check_description-checked.ensures (ap not c.if-not-passes.true))).1
+pub returns-in_err-check_description-clause-position : goal.returns-in_err-check_description-clause-position
+returns-in_err-check_description-clause-position c =
+    let p = err_from_is_err_and c.from_residual.result c.from_residual.ensures.1 in
+    rw (p.1, p.2) (positioned_first _ _ _ _ (sym c.check_description.ensures ∙ c.in_err-check_description.was))
+
+pub returns-then-reply_len-lt72-clause-position : goal.returns-then-reply_len-lt72-clause-position
+returns-then-reply_len-lt72-clause-position c = positioned_behind _ _ _ _ _ refl (sym c.check_description.ensures ∙ c.in_ok-check_description.was)
+
+pub returns-clause-position : goal.returns-clause-position
+returns-clause-position c = positioned_behind _ _ _ _ _ refl (sym c.check_description.ensures ∙ c.in_ok-check_description.was)

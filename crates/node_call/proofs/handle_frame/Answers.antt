@@ -15,13 +15,13 @@ use Rattle.node_spec.proofs.CallLaws.{call-refused, earlier_fails, node_theorems
 use Rattle.node_call.proofs.FrameLaws.{call-joined, call-keeps, call-small, call-changes}
 use Rattle.node_call.proofs.handle_frame.Goals as goal
 
-pub returns-in-Failed-clause-ends : goal.returns-in-Failed-clause-ends
-returns-in-Failed-clause-ends c =
+pub returns-in-Err-clause-ends : goal.returns-in-Err-clause-ends
+returns-in-Err-clause-ends c =
     let a = c.args in
     let x = fixed a.alias a.write_lengths (spaces_in a.spaces.now) a.flash.now in
     let w = contents_in a.memory.now a.registers.now in
     let st = state_in a.places.now a.pool.now in
-    let g = sym (by-sizes x w a.reply.now c.check_call-checked.ensures.first) ∙ c.in-Failed.is in
+    let g = sym (by-sizes x w a.reply.now c.check_call-checked.ensures.first) ∙ c.in-Err.is in
     let e = call-refused x a.reply.now a.tick st w (can_frame a.header a.payload.now) (earlier_fails x a.reply.now st w g) in
     record {
       answers = rw e (record { answer = refl; reply = refl; contents = refl; short = tt });
@@ -30,8 +30,8 @@ returns-in-Failed-clause-ends c =
       changes = refl;
     }
 
-pub returns-in-Failed-clause-theorems : goal.returns-in-Failed-clause-theorems
-returns-in-Failed-clause-theorems c = node_theorems _
+pub returns-in-Err-clause-theorems : goal.returns-in-Err-clause-theorems
+returns-in-Err-clause-theorems c = node_theorems _
 
 pub answer_outcome-requires : goal.answer_outcome-requires
 answer_outcome-requires c =

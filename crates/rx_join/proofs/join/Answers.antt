@@ -9,18 +9,18 @@ use Rattle.rx_join.proofs.ArriveLaws.{first-error_is, passes}
 use borrow.Author.Rules.{rules}
 use Rattle.rx_join.proofs.join.Goals as goal
 
-pub returns-in-Failed-clause-ends : goal.returns-in-Failed-clause-ends
-returns-in-Failed-clause-ends c =
+pub returns-in-Err-clause-ends : goal.returns-in-Err-clause-ends
+returns-in-Err-clause-ends c =
     let a = c.args in
     let l = c.look_up-looked in
     let e = first-error_is c.source_of-source.result a.tick a.places.now l.result l.ensures a.pool.now a.later in
-    refused_ends (sym (c.first_error-checked.ensures ∙ e) ∙ c.in-Failed.is)
+    refused_ends (sym (c.first_error-checked.ensures ∙ e) ∙ c.in-Err.is)
 
-pub returns-in-Failed-clause-aging : goal.returns-in-Failed-clause-aging
-returns-in-Failed-clause-aging c = join-aging
+pub returns-in-Err-clause-aging : goal.returns-in-Err-clause-aging
+returns-in-Err-clause-aging c = join-aging
 
-pub returns-in-Failed-clause-source : goal.returns-in-Failed-clause-source
-returns-in-Failed-clause-source c = join-one-source
+pub returns-in-Err-clause-source : goal.returns-in-Err-clause-source
+returns-in-Err-clause-source c = join-one-source
 
 -- what the search found and the drop left, where no error applies
 pub returns-then-payload-gt8-clause-ends : goal.returns-then-payload-gt8-clause-ends

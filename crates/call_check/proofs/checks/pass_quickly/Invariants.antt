@@ -1,6 +1,5 @@
 use mathlib.Core.Path.{◌≡◌}
 use mathlib.Core.List.{[]}
-use Prim.Native.Nat.{◌≤◌, ◌-◌}
 use lib.ListN.{drop}
 use Rattle.call_error.specs.CallErrors.{space_numbers, spaces_check}
 use Rattle.space_table.specs.Table.{spaces_from, spaces_in}
@@ -8,8 +7,7 @@ use Rattle.call_check.proofs.Laws.{Marks}
 use Rattle.call_check.proofs.checks.pass_quickly.Given as goal
 
 abbrev pub invariant-loop-i : goal.invariant-loop-i
-invariant-loop-i l =
-    (l.i ≤ l.count) × Marks l.marks (space_numbers (spaces_from l.table 0 l.i)) × (spaces_check l.flash_len l.memory_len [] (spaces_in l.table) ≡ spaces_check l.flash_len l.memory_len (space_numbers (spaces_from l.table 0 l.i)) (drop l.i (spaces_in l.table)))
-
-abbrev pub decreases-loop-i : goal.decreases-loop-i
-decreases-loop-i l = l.count - l.i
+invariant-loop-i l = record {
+  marked : Marks l.marks (space_numbers (spaces_from l.table 0 l.i));
+  passed : spaces_check l.flash_len l.memory_len [] (spaces_in l.table) ≡ spaces_check l.flash_len l.memory_len (space_numbers (spaces_from l.table 0 l.i)) (drop l.i (spaces_in l.table));
+}
