@@ -27,7 +27,7 @@ ghost use Rattle.bujorelm_tool.specs.Composing.{Composes};
 ghost use Rattle.bujorelm_tool.specs.Joining.{joined_bytes, joined_of, outcome_is};
 
 use rx_join_spec::JoinResult;
-use tool_write_spec::CommandWritten;
+use tool_write_spec::WriteError;
 
 // The version of this edge, major in the upper 16 bits and minor in the lower: a header of the same major and of no
 // greater minor fits.
@@ -54,7 +54,7 @@ pub extern "C" fn bujorelm_compose_read(
     ensures every_request { EveryRequest }
 {
     if 64 < count {
-        tool_result::written_into(CommandWritten::OutOfRange, composed);
+        tool_result::written_into(Err(WriteError::OutOfRange), composed);
         return;
     }
     let written = tool_write::write_read(space, address, count as u8, buffer);

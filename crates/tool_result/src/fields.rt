@@ -9,23 +9,23 @@ use tool_result_spec::{
     Acknowledged, ByteRange, Composed, InformationFields, OptionsFields, RejectionFields,
     ReplyFields,
 };
-use tool_write_spec::CommandWritten;
+use tool_write_spec::WriteError;
 
-pub fn of_written(written: CommandWritten) -> Composed
+pub fn of_written(written: Result<usize, WriteError>) -> Composed
     ensures { result ≡ composed_of written }
 {
     match written {
-        CommandWritten::OutOfRange => Composed {
+        Ok(length) => Composed {
+            refusal: 0,
+            length,
+        },
+        Err(WriteError::OutOfRange) => Composed {
             refusal: 1,
             length: 0,
         },
-        CommandWritten::NoRoom => Composed {
+        Err(WriteError::NoRoom) => Composed {
             refusal: 2,
             length: 0,
-        },
-        CommandWritten::Length(length) => Composed {
-            refusal: 0,
-            length: length,
         },
     }
 }

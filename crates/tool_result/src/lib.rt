@@ -7,12 +7,12 @@ ghost use Rattle.tool_result_spec.specs.Numbers.{composed_of, acknowledged_of, r
 
 use tool_read_ack::{ReceivedIn, RejectionIn};
 use tool_read_spec::ReplyIn;
-use tool_write_spec::CommandWritten;
+use tool_write_spec::WriteError;
 
 mod fields;
 mod layout;
 
-pub fn written_into(written: CommandWritten, composed: &mut [u8; 16])
+pub fn written_into(written: Result<usize, WriteError>, composed: &mut [u8; 16])
     ensures { composed.new ≡ composed_bytes (composed_of written) }
 {
     layout::put_composed(fields::of_written(written), composed);

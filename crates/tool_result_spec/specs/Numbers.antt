@@ -1,9 +1,9 @@
 -- What the tool's writer and readers give, as numbers for a caller in C: the number of each case, and its values.
-use Rattle.std.specs.Prelude.{ℕ, ◌≡◌, Bool, true, false, cond, List, eqb}
+use Rattle.std.specs.Prelude.{ℕ, ◌≡◌, Bool, true, false, cond, List, eqb, Result, Ok, Err}
 use Rattle.cmd_fields.specs.declared.Form.{Form}
 use Rattle.cmd_fields.specs.declared.Form.TheVariants.{NoSpace, Byte6, Fd, Fe, Ff}
-use Rattle.tool_write_spec.specs.declared.CommandWritten.{CommandWritten}
-use Rattle.tool_write_spec.specs.declared.CommandWritten.TheVariants.{OutOfRange, NoRoom, Length}
+use Rattle.tool_write_spec.specs.declared.WriteError.{WriteError}
+use Rattle.tool_write_spec.specs.declared.WriteError.TheVariants.{OutOfRange, NoRoom}
 use Rattle.tool_read_ack.specs.declared.ReceivedIn.{ReceivedIn}
 use Rattle.tool_read_ack.specs.declared.ReceivedIn.TheVariants.{NotReceived, Received}
 use Rattle.tool_read_ack.specs.declared.RejectionIn.{RejectionIn}
@@ -45,10 +45,10 @@ tool_refusal_number not_refused = 0
 
 -- "The writer refuses with W1 a count or length out of range, then with W2 a lent buffer under 72 bytes"; else the
 -- command's length.
-abbrev pub composed_of : CommandWritten → Composed
-composed_of OutOfRange = record { refusal = tool_refusal_number w1; length = 0 }
-composed_of NoRoom = record { refusal = tool_refusal_number w2; length = 0 }
-composed_of (Length n) = record { refusal = tool_refusal_number not_refused; length = n }
+abbrev pub composed_of : Result ℕ WriteError → Composed
+composed_of (Err OutOfRange) = record { refusal = tool_refusal_number w1; length = 0 }
+composed_of (Err NoRoom) = record { refusal = tool_refusal_number w2; length = 0 }
+composed_of (Ok n) = record { refusal = tool_refusal_number not_refused; length = n }
 
 -- ---- Received OK and Rejected
 

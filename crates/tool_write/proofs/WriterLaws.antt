@@ -1,8 +1,7 @@
--- Laws of a command with an address, which is put into the buffer as a reply is, and of the tests before it.
+-- Laws of a command with an address, which is put into the buffer as a reply is.
 -- Assumes nothing.
 use Prim.Native.Nat.{ℕ, ◌+◌, ◌≤◌}
-use mathlib.Core.Path.{◌≡◌, sym, ap, ◌∙◌}
-use mathlib.Core.Bool.{Bool, true, false}
+use mathlib.Core.Path.{◌≡◌, sym, ap}
 use mathlib.Core.List.{List, ◌++◌}
 use native.Mathlib.Omega.{arith}
 use lib.ListN.{length}
@@ -25,10 +24,3 @@ module _ (command s a : ℕ) (content : List ℕ) {form : Form} (f : form ≡ fo
   access-put {before = before} room small agrees =
       let l = access-length (ap head_length (sym f)) in
       rw (f, le-leb (length (opening command s a ++ content)) (length before) (omega (arith, head_small s))) at agrees.buffer
-
--- what a test of the code says of what it computes
-pub refused : {t s : Bool} → t ≡ s → t ≡ false → s ≡ false
-refused e h = sym e ∙ h
-
-pub passed : {t s : Bool} → t ≡ s → t ≡ true → s ≡ true
-passed e h = sym e ∙ h

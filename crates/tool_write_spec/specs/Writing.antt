@@ -1,5 +1,5 @@
 -- Document 02, C-12: "a writer for every command in document 01, in one form only".
-use Rattle.std.specs.Prelude.{ℕ, ◌≤◌, ◌≡◌, Bool, true, cond, not, ◌&&◌, List, [], ◌∷◌, ◌++◌, leb, ltb, eqb, length, get_or}
+use Rattle.std.specs.Prelude.{ℕ, ◌≤◌, ◌≡◌, Bool, true, cond, not, ◌&&◌, List, [], ◌∷◌, ◌++◌, leb, ltb, eqb, length, get_or, Result, Ok, Err}
 use Rattle.buffer.specs.Buffer.{over, AllBytes}
 use Rattle.cmd_limits.specs.Limits.{count_fits, bytes_fit}
 use Rattle.cmd_fields.specs.Commands.{Pair, Request, read, write, write_masked, options, information, reserve, update_complete, within, kind_of_command, head_bytes, form_in, rest_of}
@@ -8,8 +8,8 @@ use Rattle.cmd_fields.specs.declared.Form.TheVariants.{NoSpace, Byte6, Fd, Fe, F
 use Rattle.cmd_fields.specs.declared.Kind.{Kind}
 use Rattle.cmd_fields.specs.declared.Kind.TheVariants.{Read, Write, WriteMasked, Options, Information, Lock, UpdateComplete, Unknown}
 use Rattle.cmd_decode.specs.Decoding.{request, decode}
-use Rattle.tool_write_spec.specs.declared.CommandWritten.{CommandWritten}
-use Rattle.tool_write_spec.specs.declared.CommandWritten.TheVariants.{OutOfRange, NoRoom, Length}
+use Rattle.tool_write_spec.specs.declared.WriteError.{WriteError}
+use Rattle.tool_write_spec.specs.declared.WriteError.TheVariants.{OutOfRange, NoRoom}
 
 -- ---- the one form
 
@@ -58,6 +58,10 @@ pub data Writing : Type 0 where
 -- that the bytes handed in for pairs are pairs: an odd byte is none, and a length out of range.
 unfoldable pub writing : Bool → Request → ℕ → Writing
 writing whole q room = cond (whole && in_range q) (cond (leb 72 room) (command (command_for q)) w2) w1
+
+-- The same of a command whose request is in range: W2 is the only refusal.
+abbrev pub in_room : List ℕ → ℕ → Writing
+in_room bytes room = cond (leb 72 room) (command bytes) w2
 
 -- ---- the one form, said of a datagram and not of the writer
 
@@ -124,10 +128,10 @@ pub record EveryRequest : Type 0 where
 -- ---- what the code gives back
 
 -- The answer of the code: OutOfRange is W1, NoRoom is W2, and else the answer is the length of the command.
-abbrev pub command_answer : Writing → CommandWritten
-command_answer w1 = OutOfRange
-command_answer w2 = NoRoom
-command_answer (command bytes) = Length (length bytes)
+abbrev pub command_answer : Writing → Result ℕ WriteError
+command_answer w1 = Err OutOfRange
+command_answer w2 = Err NoRoom
+command_answer (command bytes) = Ok (length bytes)
 
 -- The lent buffer afterwards: "leaving it untouched, as it always leaves bytes past the command".
 abbrev pub command_buffer : Writing → List ℕ → List ℕ
@@ -136,6 +140,6 @@ command_buffer w2 buffer = buffer
 command_buffer (command bytes) buffer = over bytes buffer
 
 -- The answer r and the buffer `after` are what comes of writing q, over the buffer `before`.
-pub record CommandWrites (whole : Bool) (q : Request) (r : CommandWritten) (before after : List ℕ) : Type 0 where
+pub record CommandWrites (whole : Bool) (q : Request) (r : Result ℕ WriteError) (before after : List ℕ) : Type 0 where
   pub answer : r ≡ command_answer (writing whole q (length before))
   pub buffer : after ≡ command_buffer (writing whole q (length before)) before

@@ -1,4 +1,4 @@
-// What comes of writing a request, and how the writer names a space.
+// Why a request is not written, and how the writer names a space.
 #![tactic(auto)]
 
 ghost use Rattle.std.specs.Prelude.{◌≡◌};
@@ -6,13 +6,11 @@ ghost use Rattle.tool_write_spec.specs.Writing.{form_for};
 
 use cmd_fields::Form;
 
-// W1, a count or length out of range; W2, a lent buffer under 72 bytes; or the length of the command that is in front
-// of the buffer.
-#[derive(Drop)]
-pub enum CommandWritten {
+// Why a command is not written. W1: a count or length is out of range; W2: the lent buffer is under 72 bytes.
+#[derive(Clone, Copy)]
+pub enum WriteError {
     OutOfRange,
     NoRoom,
-    Length(usize),
 }
 
 // The form in which the writer names a space.
