@@ -43,6 +43,7 @@ pub extern "C" fn bujorelm_tool_version() -> u32
 // Writes the command for a read of `count` bytes. The count comes as a wide number: one over 255 is out of range, and
 // not its low byte. What holds of the writer's one form is demanded here once, for every request.
 #[unsafe(no_mangle)]
+#[tactic(auto, unfolding(tool_write_spec::specs::Writing::writing, tool_write_spec::specs::Writing::in_range), using(tool_write_spec::proofs::OnlyLaws::every_request))]
 pub extern "C" fn bujorelm_compose_read(
     space: u8,
     address: u32,
@@ -53,11 +54,10 @@ pub extern "C" fn bujorelm_compose_read(
     ensures composes { Composes true (read space address count) composed.new buffer.old buffer.new }
     ensures every_request { EveryRequest }
 {
-    if 64 < count {
-        tool_result::written_into(Err(WriteError::OutOfRange), composed);
-        return;
-    }
-    let written = tool_write::write_read(space, address, count as u8, buffer);
+    let written = match u8::try_from(count) {
+        Ok(count) => tool_write::write_read(space, address, count, buffer),
+        Err(_) => Err(WriteError::OutOfRange),
+    };
     tool_result::written_into(written, composed);
 }
 
@@ -72,8 +72,10 @@ pub extern "C" fn bujorelm_compose_write(
 )
     ensures { Composes true (write space address bytes.now) composed.new buffer.old buffer.new }
 {
-    let written = tool_write::write_write(space, address, bytes, buffer);
-    tool_result::written_into(written, composed);
+    tool_result::written_into(
+        tool_write::write_write(space, address, bytes, buffer),
+        composed,
+    );
 }
 
 // Writes the command for a masked write of pairs, each a mask and then its data.
@@ -88,8 +90,10 @@ pub extern "C" fn bujorelm_compose_masked_write(
     ensures { Composes (eqb (length pairs.now % 2) 0) (write_masked space address (pairs_of pairs.now))
         composed.new buffer.old buffer.new }
 {
-    let written = tool_write::write_masked(space, address, pairs, buffer);
-    tool_result::written_into(written, composed);
+    tool_result::written_into(
+        tool_write::write_masked(space, address, pairs, buffer),
+        composed,
+    );
 }
 
 // Writes the command that asks for the options.
@@ -97,8 +101,7 @@ pub extern "C" fn bujorelm_compose_masked_write(
 pub extern "C" fn bujorelm_compose_options(buffer: &mut [u8], composed: &mut [u8; 16])
     ensures { Composes true options composed.new buffer.old buffer.new }
 {
-    let written = tool_write::write_options(buffer);
-    tool_result::written_into(written, composed);
+    tool_result::written_into(tool_write::write_options(buffer), composed);
 }
 
 // Writes the command that asks for the information on a space.
@@ -110,8 +113,7 @@ pub extern "C" fn bujorelm_compose_information(
 )
     ensures { Composes true (information space) composed.new buffer.old buffer.new }
 {
-    let written = tool_write::write_information(space, buffer);
-    tool_result::written_into(written, composed);
+    tool_result::written_into(tool_write::write_information(space, buffer), composed);
 }
 
 // Writes the command that locks or releases a board.
@@ -119,8 +121,7 @@ pub extern "C" fn bujorelm_compose_information(
 pub extern "C" fn bujorelm_compose_lock(id: &[u8], buffer: &mut [u8], composed: &mut [u8; 16])
     ensures { Composes true (reserve id.now) composed.new buffer.old buffer.new }
 {
-    let written = tool_write::write_lock(id, buffer);
-    tool_result::written_into(written, composed);
+    tool_result::written_into(tool_write::write_lock(id, buffer), composed);
 }
 
 // Writes the command Update Complete.
@@ -128,8 +129,7 @@ pub extern "C" fn bujorelm_compose_lock(id: &[u8], buffer: &mut [u8], composed: 
 pub extern "C" fn bujorelm_compose_update_complete(buffer: &mut [u8], composed: &mut [u8; 16])
     ensures { Composes true update_complete composed.new buffer.old buffer.new }
 {
-    let written = tool_write::write_update_complete(buffer);
-    tool_result::written_into(written, composed);
+    tool_result::written_into(tool_write::write_update_complete(buffer), composed);
 }
 
 // Reads the content of a Received OK, which is what stands behind the aliases.

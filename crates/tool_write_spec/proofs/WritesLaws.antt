@@ -1,41 +1,19 @@
--- Laws of what comes of writing a request, as the code gives it back.
+-- Laws of bytes that are pairs, which a masked write is written of.
 -- Assumes nothing.
-use Prim.Native.Nat.{ℕ, ◌%◌, ◌≤◌, ◌<◌}
-use Rattle.std.specs.Prelude.{Result, Err}
-use mathlib.Core.Path.{◌≡◌, refl, sym, ap, ◌∙◌}
+use Prim.Native.Nat.{ℕ, ◌%◌}
+use mathlib.Core.Path.{◌≡◌, refl, sym, ap}
 use mathlib.Core.Bool.{Bool, true, false, ◌&&◌}
 use mathlib.Core.List.{List, ◌++◌}
 use native.Mathlib.Omega.{arith}
 use lib.Dec.{eqb}
 use lib.ListN.{length}
-use borrow.Author.Tests.{le-leb, lt-leb, eq-eqb, eqb-true}
-use Rattle.buffer.specs.Buffer.{over}
+use borrow.Author.Tests.{eq-eqb, eqb-true}
 use Rattle.buffer.proofs.Choice.{and_left, and_right}
 use Rattle.cmd_limits.specs.Limits.{pairs_fit}
-use Rattle.cmd_fields.specs.Commands.{Request, write_masked, pairs_of, within}
+use Rattle.cmd_fields.specs.Commands.{write_masked, pairs_of, within}
 use Rattle.cmd_fields.proofs.Laws.{is_within, pairs-length}
-use Rattle.tool_write_spec.specs.Writing.{opening, command_for, in_range, Writing, w1, writing, in_room, command_answer, command_buffer, CommandWrites}
-use Rattle.tool_write_spec.specs.declared.WriteError.{WriteError}
-use Rattle.tool_write_spec.specs.declared.WriteError.TheVariants.{OutOfRange}
+use Rattle.tool_write_spec.specs.Writing.{opening, command_for}
 use Rattle.tool_write_spec.proofs.WritingLaws.{bounds, pairs-bounds, bytes_back}
-
-module _ {whole : Bool} {q : Request} {before : List ℕ} where
-  writes : {r : Result ℕ WriteError} {after : List ℕ} (w : Writing) → writing whole q (length before) ≡ w → r ≡ command_answer w → after ≡ command_buffer w before →
-      CommandWrites whole q r before after
-  writes w e a b = record { answer = rw e a; buffer = rw e b }
-
-  -- W1: a count or length out of range
-  pub writes-w1 : (whole && in_range q) ≡ false → CommandWrites whole q (Err OutOfRange) before before
-  unfolding writing
-  writes-w1 e = writes w1 (rw e) refl refl
-
-  -- a request in range: its command in front of the buffer, with its length, or W2
-  pub writes-command : (whole && in_range q) ≡ true → {bytes : List ℕ} → bytes ≡ command_for q → {r : Result ℕ WriteError} {after : List ℕ} →
-      (r ≡ command_answer (in_room bytes (length before))) × (after ≡ command_buffer (in_room bytes (length before)) before) → CommandWrites whole q r before after
-  unfolding writing
-  writes-command e d p = let w = p in writes (in_room (command_for q) (length before)) (rw e) (rw d at w.0) (rw d at w.1)
-
--- ---- bytes that are pairs
 
 same : (s t : Bool) → (s ≡ true → t ≡ true) → (t ≡ true → s ≡ true) → s ≡ t
 same true t f g = sym (f refl)
