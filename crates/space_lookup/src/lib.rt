@@ -19,24 +19,17 @@ pub enum Found {
 pub fn size_of(space: Space) -> usize
     ensures { (result ≡ size_of space) × (result ≤ 4294967296) }
 {
-    if space.highest < space.lowest {
-        return 0;
-    }
-    (space.highest - space.lowest) as usize + 1
+    (space.highest as usize + 1).saturating_sub(space.lowest as usize)
 }
 
 // What is known of the space with that number.
 pub fn find_space(spaces: &[u8], number: u8) -> Found
     ensures { result ≡ find_space (spaces_in spaces.now) number }
 {
-    let count = spaces.len() / 16;
-    let mut i = 0;
-    while i < count {
-        if spaces[16 * i] == number {
-            let space = space_table::space_at(spaces, i);
-            return Found::Described(space);
+    for row in spaces.chunks_exact(16) {
+        if row[0] == number {
+            return Found::Described(space_table::space_in(row));
         }
-        i += 1;
     }
     left_out(number)
 }
@@ -45,15 +38,9 @@ pub fn find_space(spaces: &[u8], number: u8) -> Found
 pub fn lowest_number(spaces: &[u8]) -> u8
     ensures { result ≡ lowest_number (spaces_in spaces.now) }
 {
-    let count = spaces.len() / 16;
     let mut lowest: u8 = 0xFD;
-    let mut i = 0;
-    while i < count {
-        let number = spaces[16 * i];
-        if number < lowest {
-            lowest = number;
-        }
-        i += 1;
+    for row in spaces.chunks_exact(16) {
+        lowest = lowest.min(row[0]);
     }
     lowest
 }
@@ -63,12 +50,8 @@ pub fn lowest_number(spaces: &[u8]) -> u8
 pub fn window<'a>(space: Space, flash: &'a [u8], memory: &'a [u8]) -> &'a [u8]
     ensures { result.now ≡ window_of flash.now memory.now space }
 {
-    let start = space.offset as usize;
-    let size = size_of(space);
-    if space.in_flash {
-        return buffer::part(flash, start, size);
-    }
-    buffer::part(memory, start, size)
+    let store = if space.in_flash { flash } else { memory };
+    buffer::part(store, space.offset as usize, size_of(space))
 }
 
 // What is known of a number that is not described.
@@ -76,7 +59,8 @@ fn left_out(number: u8) -> Found
     ensures { result ≡ left_out number }
 {
     if number < 0xFD {
-        return Found::Unknown;
+        Found::Unknown
+    } else {
+        Found::Empty(number == 0xFF)
     }
-    Found::Empty(number == 0xFF)
 }

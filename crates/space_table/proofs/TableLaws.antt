@@ -1,13 +1,62 @@
 -- Laws of the spaces of a table.
 -- Assumes nothing.
-use Prim.Native.Nat.{ℕ, zero, suc, ◌+◌, ◌-◌, ◌/◌, ◌≤◌, ◌<◌}
+use Prim.Native.Nat.{ℕ, zero, suc, ◌+◌, ◌-◌, ◌*◌, ◌/◌, ◌≤◌, ◌<◌}
 use mathlib.Core.Path.{◌≡◌, refl, ap, ◌∙◌}
-use mathlib.Core.List.{List, [], ◌∷◌}
+use mathlib.Core.List.{List, [], ◌∷◌, ◌++◌}
 use native.Mathlib.Numerals.{add-one}
+use native.Mathlib.Nat.{add-zero, add_assoc}
 use native.Mathlib.Omega.{arith}
-use lib.ListN.{length, get_or, get_or-eq_default}
-use Rattle.space_table.specs.Table.{row_at, spaces_from, space_at, no_space}
+use lib.ListN.{length, drop, get_or, get_or-eq_default, get_or-append, length-append}
+use Rattle.std.proofs.lemmas.List.{get_or-drop, get_or-append-add}
+use Rattle.space_table.specs.Table.{number_at, row_at, spaces_from, spaces_in, space_at, no_space}
 use Rattle.space_table.specs.declared.Space.{Space}
+
+-- ---- a row that stands elsewhere
+
+number-same : (s t : List ℕ) (a b : ℕ) → ((k : ℕ) → k < 4 → get_or s (a + k) 0 ≡ get_or t (b + k) 0) → number_at s a ≡ number_at t b
+number-same s t a b f =
+    let z : get_or s a 0 ≡ get_or t b 0 = simp add-zero at (f 0 (omega arith)) in
+    rw (f 3 (omega arith), f 2 (omega arith), f 1 (omega arith), z)
+
+row-same : (s t : List ℕ) (i j : ℕ) → ((k : ℕ) → k < 16 → get_or s (16 * i + k) 0 ≡ get_or t (16 * j + k) 0) → row_at s i ≡ row_at t j
+unfolding row_at
+row-same s t i j f =
+    let z : get_or s (16 * i) 0 ≡ get_or t (16 * j) 0 = simp add-zero at (f 0 (omega arith)) in
+    let n : (at : ℕ) → at < 13 → number_at s (16 * i + at) ≡ number_at t (16 * j + at) =
+    λ at h. number-same s t (16 * i + at) (16 * j + at) (λ k below. rw (add_assoc, add_assoc) (f (at + k) (omega arith))) in
+    rw (z, f 1 (omega arith), f 2 (omega arith), n 4 (omega arith), n 8 (omega arith), n 12 (omega arith))
+
+pub row-drop : (t : List ℕ) (i : ℕ) → row_at (drop (16 * i) t) 0 ≡ row_at t i
+row-drop t i = row-same (drop (16 * i) t) t 0 i (λ k h. get_or-drop (16 * i) t (0 + k) 0 ∙ ap (λ n. get_or t n 0) (omega arith))
+
+module _ (x t : List ℕ) (e : length x ≡ 16) where
+  row-first : row_at (x ++ t) 0 ≡ row_at x 0
+  row-first = row-same (x ++ t) x 0 0 (λ k h. get_or-append x t 0 (0 + k) (omega arith))
+
+  row-next : (i : ℕ) → row_at (x ++ t) (i + 1) ≡ row_at t i
+  row-next i =
+      row-same (x ++ t) t (i + 1) i (λ k h.
+      let n : 16 * (i + 1) + k ≡ length x + (16 * i + k) = omega arith in
+      rw n (get_or-append-add x t (16 * i + k) 0))
+
+  rows-next : (i n : ℕ) → spaces_from (x ++ t) (i + 1) n ≡ spaces_from t i n
+  unfolding spaces_from
+  rows-next i zero = refl
+  rows-next i (suc n) = rw (row-next i, rows-next (i + 1) n)
+
+  -- the first row of a table and what is behind it
+  pub spaces-next : spaces_in (x ++ t) ≡ row_at x 0 ∷ spaces_in t
+  unfolding spaces_from
+  spaces-next =
+      let n : length (x ++ t) / 16 ≡ suc (length t / 16) = rw (length-append x t, ← add-one (length t / 16)) (omega arith) in
+      rw (n, row-first, rows-next 0 (length t / 16))
+
+-- no whole row
+pub spaces-none : (t : List ℕ) → length t < 16 → spaces_in t ≡ []
+unfolding spaces_from
+spaces-none t h = let n : length t / 16 ≡ 0 = omega arith in rw n
+
+-- ---- the spaces of a table by their place
 
 pub spaces-length : (t : List ℕ) (i n : ℕ) → length (spaces_from t i n) ≡ n
 unfolding spaces_from
@@ -42,6 +91,3 @@ module _ (t : List ℕ) (i count : ℕ) where
   table_done h =
       let e : count - i ≡ 0 = omega arith in
       rw e
-
-pub table_start : (t : List ℕ) (count : ℕ) → spaces_from t 0 count ≡ spaces_from t 0 (count - 0)
-table_start t count = let e : count ≡ count - 0 = omega arith in ap (λ (n : ℕ). spaces_from t 0 n) e

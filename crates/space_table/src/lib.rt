@@ -1,8 +1,8 @@
 // The table of spaces that the board lends, sixteen bytes for each space.
 #![tactic(auto)]
 
-ghost use Rattle.std.specs.Prelude.{◌≡◌, ◌+◌, ◌*◌, ◌≤◌, length};
-ghost use Rattle.space_table.specs.Table.{number_at, row_at, space_at, spaces_in};
+ghost use Rattle.std.specs.Prelude.{◌≡◌, ◌≤◌, length};
+ghost use Rattle.space_table.specs.Table.{row_at, space_at, spaces_in};
 
 // One address space. Both its lowest and its highest address are in it. It lies in flash or in working memory, from
 // `offset` on.
@@ -29,7 +29,7 @@ pub fn space_at(table: &[u8], i: usize) -> Space
     ensures { result ≡ space_at table.now i }
 {
     if i < table.len() / 16 {
-        return row_at(table, i);
+        return space_in(&table[16 * i..]);
     }
     Space {
         number: 0,
@@ -41,29 +41,17 @@ pub fn space_at(table: &[u8], i: usize) -> Space
     }
 }
 
-// The number of four bytes, least significant first.
-fn number_at(table: &[u8], at: usize) -> u32
-    requires { at + 4 ≤ length table.now }
-    ensures { result ≡ number_at table.now at }
+// The space in the first sixteen bytes.
+pub fn space_in(row: &[u8]) -> Space
+    requires { 16 ≤ length row.now }
+    ensures { result ≡ row_at row.now 0 }
 {
-    buffer::number(table[at + 3], table[at + 2], table[at + 1], table[at])
-}
-
-// The space whose sixteen bytes are row i.
-fn row_at(table: &[u8], i: usize) -> Space
-    requires { 16 * i + 16 ≤ length table.now }
-    ensures { result ≡ row_at table.now i }
-{
-    let at = 16 * i;
-    let lowest = number_at(table, at + 4);
-    let highest = number_at(table, at + 8);
-    let offset = number_at(table, at + 12);
     Space {
-        number: table[at],
-        read_only: table[at + 1] != 0,
-        in_flash: table[at + 2] != 0,
-        lowest: lowest,
-        highest: highest,
-        offset: offset,
+        number: row[0],
+        read_only: row[1] != 0,
+        in_flash: row[2] != 0,
+        lowest: buffer::number_at(row, 4),
+        highest: buffer::number_at(row, 8),
+        offset: buffer::number_at(row, 12),
     }
 }
