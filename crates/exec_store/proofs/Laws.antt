@@ -18,15 +18,20 @@ use Rattle.exec_store.specs.Storing.{store_bytes, mask_byte, masked, store_maske
 
 -- ---- masked writes
 
-pub masked-step : (p l : List ℕ) (i k v : ℕ) → i + 1 < length p → k < length l → v ≡ mask_byte (get_or l k 0) (pair (get_or p i 0) (get_or p (i + 1) 0)) →
-    take k l ++ masked (pairs_of (drop i p)) (drop k l) ≡ take (k + 1) (set l k v) ++ masked (pairs_of (drop (i + 2) p)) (drop (k + 1) (set l k v))
-unfolding masked pairs_of
-masked-step p l i k v hi hk q =
-    let hi' : i < length p = omega arith in
-    let hi'' : suc i < length p = omega arith in
-    let e : i + 2 ≡ suc (suc i) = omega arith in
+-- a pair, and those behind it
+pub pairs-next : (two rest : List ℕ) → length two ≡ 2 → pairs_of (two ++ rest) ≡ pair (get_or two 0 0) (get_or two 1 0) ∷ pairs_of rest
+unfolding pairs_of
+pairs-next [] rest e = absurd (omega arith)
+pairs-next (m ∷ []) rest e = absurd (omega arith)
+pairs-next (m ∷ v ∷ []) rest e = refl
+pairs-next (m ∷ v ∷ w ∷ more) rest e = absurd (omega arith)
+
+pub masked-step : (two rest l : List ℕ) (k v : ℕ) → length two ≡ 2 → k < length l → v ≡ mask_byte (get_or l k 0) (pair (get_or two 0 0) (get_or two 1 0))
+    → take k l ++ masked (pairs_of (two ++ rest)) (drop k l) ≡ take (k + 1) (set l k v) ++ masked (pairs_of rest) (drop (k + 1) (set l k v))
+unfolding masked
+masked-step two rest l k v e h q =
     let lt : k < suc k = omega arith in
-    rw (drop-cons p i 0 hi', drop-cons p (suc i) 0 hi'', drop-cons l k 0 hk, e, add-one k, take-suc-set l k v hk, drop-set-lt (suc k) l k v lt, append_snoc, q, add-one i)
+    rw (pairs-next two rest e, drop-cons l k 0 h, add-one k, take-suc-set l k v h, drop-set-lt (suc k) l k v lt, append_snoc, q)
 
 pairs-short : (l : List ℕ) → length l ≤ 1 → pairs_of l ≡ []
 unfolding pairs_of
@@ -34,13 +39,13 @@ pairs-short [] h = refl
 pairs-short (m ∷ []) h = refl
 pairs-short (m ∷ v ∷ l) h = absurd (omega arith)
 
-pub masked-end : (p l : List ℕ) (i k : ℕ) → length p ≤ i + 1 → take k l ++ masked (pairs_of (drop i p)) (drop k l) ≡ l
+pub masked-end : (rest l : List ℕ) (k : ℕ) → length rest < 2 → take k l ++ masked (pairs_of rest) (drop k l) ≡ l
 unfolding masked
-masked-end p l i k h = rw (pairs-short (drop i p) (rw length-drop (omega arith))) (take-append-drop k l)
+masked-end rest l k h = rw (pairs-short rest (omega arith)) (take-append-drop k l)
 
 -- where all pairs fit, and where not
 module _ (p l : List ℕ) (k : ℕ) where
-  pub masked-start : k + length p / 2 ≤ length l → store_masked (pairs_of p) k l ≡ take k l ++ masked (pairs_of (drop 0 p)) (drop k l)
+  pub masked-start : k + length p / 2 ≤ length l → store_masked (pairs_of p) k l ≡ take k l ++ masked (pairs_of p) (drop k l)
   unfolding store_masked
   masked-start h = rw (pairs-length p, le-leb _ _ h)
 

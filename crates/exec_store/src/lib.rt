@@ -9,24 +9,16 @@ ghost use Rattle.exec_store.specs.Storing.{mask_byte, store_masked};
 fn mask_byte(old: u8, mask: u8, value: u8) -> u8
     ensures { result ≡ mask_byte old (pair mask value) }
 {
-    (old & (255 - mask)) | (value & mask)
+    (old & !mask) | (value & mask)
 }
 
 // Stores pairs of a mask and a value from an index of memory on. Where they do not fit, nothing is stored.
 pub fn put_masked(memory: &mut [u8], index: usize, pairs: &[u8])
     ensures { memory.new ≡ store_masked (pairs_of pairs.now) index memory.old }
 {
-    if memory.len() < index {
-        return;
-    }
-    if memory.len() - index < pairs.len() / 2 {
-        return;
-    }
-    let mut i = 0;
-    let mut k = index;
-    while i + 1 < pairs.len() {
-        memory[k] = mask_byte(memory[k], pairs[i], pairs[i + 1]);
-        i += 2;
-        k += 1;
+    if index <= memory.len() && pairs.len() / 2 <= memory.len() - index {
+        for (i, pair) in pairs.chunks_exact(2).enumerate() {
+            memory[index + i] = mask_byte(memory[index + i], pair[0], pair[1]);
+        }
     }
 }
