@@ -1,68 +1,49 @@
 // A board by its bytes, and the error of the caller that refuses it.
-use call_error::{CallError, Checked};
-use std::io;
+use crate::bytes::Hex;
+use call_error::CallError;
+use std::{fmt, io};
 
-fn print_position(rt: &HostRuntime, position: Option<u8>) -> io::Result<()> {
-    match position {
-        None => Ok(()),
-        Some(index) => {
-            crate::output::print(rt, b" of space ")?;
-            crate::output::print_decimal(rt, index)
+// An error of the caller, with the position of the space that it refuses.
+#[derive(Clone, Copy)]
+pub struct Refusal(pub CallError);
+
+impl fmt::Display for Refusal {
+    fn fmt<W: fmt::Write>(&self, f: &mut fmt::Formatter<W>) -> fmt::Result {
+        write!(f, "refused by B{}", call_error::number_of(self.0))?;
+        match call_error::position_of(self.0) {
+            Some(index) => write!(f, " of space {index}"),
+            None => Ok(()),
         }
     }
 }
 
-pub fn print_error(rt: &HostRuntime, error: CallError) -> io::Result<()> {
-    crate::output::print(rt, b"refused by B")?;
-    crate::output::print_decimal(rt, call_error::number_of(error))?;
-    print_position(rt, call_error::position_of(error))
-}
-
-fn print_checked(rt: &HostRuntime, checked: Checked) -> io::Result<()> {
-    match checked {
-        Ok(()) => crate::output::print(rt, b"not refused"),
-        Err(error) => print_error(rt, error),
-    }
-}
-
-// A byte of the line; 0 where it ends before.
-fn byte_at(board: &[u8], index: usize) -> u8 {
-    if index < board.len() {
-        return board[index];
-    }
-    0
-}
-
-// A number of three bytes, most significant first.
-fn three_bytes(board: &[u8], at: usize) -> usize {
-    if 8 < at {
-        return 0;
-    }
-    byte_at(board, at) as usize * 65536
-        + byte_at(board, at + 1) as usize * 256
-        + byte_at(board, at + 2) as usize
-}
-
 // The first error of a board: alias in bytes 0 and 1, memory 2 to 4, flash 5 to 7, reply buffer 8, and then the table.
-fn check_board(board: &[u8], spaces: &[u8]) -> Checked {
+// The bytes that a short line lacks are zeros.
+fn check_board(sizes: &[u8], spaces: &[u8]) -> Result<(), CallError> {
+    let mut bytes = [0u8; 9];
+    for (byte, given) in bytes.iter_mut().zip(sizes) {
+        *byte = *given;
+    }
+    let [a0, a1, m0, m1, m2, f0, f1, f2, reply_len] = bytes;
     call_check::check_call(
-        byte_at(board, 0) as u16 * 256 + byte_at(board, 1) as u16,
+        u16::from_be_bytes([a0, a1]),
         spaces,
-        three_bytes(board, 5),
-        three_bytes(board, 2),
-        byte_at(board, 8) as usize,
+        u32::from_be_bytes([0, f0, f1, f2]) as usize,
+        u32::from_be_bytes([0, m0, m1, m2]) as usize,
+        reply_len as usize,
     )
 }
 
 // The line for a board.
-pub fn run_board(rt: &HostRuntime, board: &[u8]) -> io::Result<()> {
-    let spaces = buffer::part(board, 9, 279);
-    let checked = check_board(board, spaces);
-    crate::output::print_bytes(rt, buffer::part(board, 0, 9))?;
-    crate::output::print(rt, b" and a table of ")?;
-    crate::output::print_byte(rt, (spaces.len() / 256 % 256) as u8)?;
-    crate::output::print_byte(rt, (spaces.len() % 256) as u8)?;
-    crate::output::print(rt, b" bytes: ")?;
-    print_checked(rt, checked)?;
-    crate::output::print(rt, b"\n")
+pub fn run(rt: &impl io::Print, board: &[u8]) -> io::Result<()> {
+    let (sizes, spaces) = board.split_at(board.len().min(9));
+    print!(rt;
+        "{} and a table of {:04X} bytes: ",
+        Hex(sizes),
+        spaces.len()
+    )?;
+    match check_board(sizes, spaces) {
+        Ok(()) => println!(rt; "not refused"),
+        Err(error) => println!(rt; "{}", Refusal(error)),
+    }
 }
