@@ -20,7 +20,7 @@ use Rattle.reply_answer.specs.declared.Answer.TheVariants as answered
 use Rattle.exec_registers.specs.Registers.{registers_at_start}
 use Rattle.exec_spec.specs.Access.{read_result, write_result}
 use Rattle.exec_spec.specs.Performing.{Fixed, fixed, Contents, contents, perform}
-use Rattle.tool_read_spec.specs.Finding.{first_zero, is_text, kind_of_reply, find_read, failure_fits, find_read_failure, find_write_failure, find_options, find_information, find_locked, find_kind, find_reply, reply_found}
+use Rattle.tool_read_spec.specs.Finding.{first_zero, is_text, kind_of_reply, find_read, failure_fits, find_options, find_information, find_locked, find_kind, find_reply, reply_found}
 use Rattle.tool_meets_board_spec.specs.Meeting.{ReadBack, Acknowledges}
 use Rattle.std.specs.Prelude.{Ok}
 
@@ -48,12 +48,12 @@ unfolding perform find_space read_result head_bytes find_reply kind_of_reply fin
 both_bytes = (refl, refl)
 
 outside : Meets Byte6 (asked.read 0xFB 0 64) (read_failure Byte6 0xFB 0 0x1082 no_text)
-unfolding perform find_space read_result head_bytes find_reply kind_of_reply find_kind find_read_failure failure_fits is_text first_zero reply_found
+unfolding perform find_space read_result head_bytes find_reply kind_of_reply find_kind failure_fits is_text first_zero reply_found
 outside = (refl, refl)
 
 -- a write at such an address
 write-outside : Meets Byte6 (asked.write 0xFB 0 (0x01 ∷ [])) (write_failure Byte6 0xFB 0 0x1082 no_text)
-unfolding perform find_space write_result head_bytes find_reply kind_of_reply find_kind find_write_failure failure_fits is_text first_zero reply_found
+unfolding perform find_space write_result head_bytes find_reply kind_of_reply find_kind failure_fits is_text first_zero reply_found
 write-outside = (refl, refl)
 
 lowest-number : Meets NoSpace asked.options (options 0xE000 0x70 0xFF (lowest 0xFB no_text))

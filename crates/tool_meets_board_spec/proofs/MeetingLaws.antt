@@ -15,9 +15,9 @@ use Rattle.can_frame.specs.Frame.{frame_of}
 use Rattle.tx_cut_spec.specs.Cutting.{aliases}
 use Rattle.tx_transport.specs.Transport.{received_ok, rejected_with}
 use Rattle.node_send.specs.Sending.{transport_frames}
-use Rattle.tool_read_ack.specs.Receipt.{read_received, read_rejection}
-use Rattle.tool_read_ack.specs.declared.ReceivedIn.TheVariants.{Received}
-use Rattle.tool_read_ack.specs.declared.RejectionIn.TheVariants.{Rejection}
+use Rattle.std.proofs.Common.{Some}
+use Rattle.tool_read_spec.specs.Finding.{span}
+use Rattle.tool_read_ack.specs.Receipt.{received, rejection, read_received, read_rejection}
 use Rattle.cmd_fields.specs.Commands as asked
 use Rattle.cmd_fields.specs.Commands.{Request, Names}
 use Rattle.cmd_fields.specs.declared.Form.{Form}
@@ -147,19 +147,19 @@ unfolding received_ok
 ok_read board tool flags P p =
     cond-elim (Each P) (aliases board tool) {a = frame_of (0x19A28000 + board) (two_bytes tool ++ flags ∷ []) ∷ []} {b = []} (λ _. (p, tt)) (λ _. tt)
 
-code_read : (board tool code : ℕ) → Each (λ (f : Frame). read_rejection (content_of f) ≡ Rejection code 2 0) (rejected_with board tool code)
+code_read : (board tool code : ℕ) → Each (λ (f : Frame). read_rejection (content_of f) ≡ Some (rejection code (span 2 0))) (rejected_with board tool code)
 unfolding rejected_with frame_of read_rejection
 code_read board tool code =
     let two : code / 256 * 256 + code % 256 ≡ code = omega arith in
-    cond-elim (Each (λ (f : Frame). read_rejection (content_of f) ≡ Rejection code 2 0)) (aliases board tool)
+    cond-elim (Each (λ (f : Frame). read_rejection (content_of f) ≡ Some (rejection code (span 2 0)))) (aliases board tool)
     {a = frame_of (0x19A48000 + board) (two_bytes tool ++ two_bytes code) ∷ []} {b = []} (λ _. (rw two, tt)) (λ _. tt)
 
 acknowledged : (board tool : ℕ) (a : Answer) → Each (Acknowledges a) (transport_frames board tool (transport_of a))
 unfolding frame_of read_received
 acknowledged board tool (answered.Rejected code) = code_read board tool code
-acknowledged board tool (answered.Written index n) = ok_read board tool 0x00 (λ f. read_received (content_of f) ≡ Received false 0) refl
-acknowledged board tool answered.UpdateComplete = ok_read board tool 0x00 (λ f. read_received (content_of f) ≡ Received false 0) refl
-acknowledged board tool (answered.Replied n) = ok_read board tool 0x80 (λ f. read_received (content_of f) ≡ Received true 0) refl
+acknowledged board tool (answered.Written index n) = ok_read board tool 0x00 (λ f. read_received (content_of f) ≡ Some (received false 0)) refl
+acknowledged board tool answered.UpdateComplete = ok_read board tool 0x00 (λ f. read_received (content_of f) ≡ Some (received false 0)) refl
+acknowledged board tool (answered.Replied n) = ok_read board tool 0x80 (λ f. read_received (content_of f) ≡ Some (received true 0)) refl
 
 pub halves_meet : HalvesMeet
 halves_meet = record { replies = replies-read; transport = record { to_answer = acknowledged; to_refusal = code_read } }

@@ -10,37 +10,33 @@ mod accesses;
 mod inquiries;
 
 // The reply by the kind of its command.
-fn by_kind(datagram: &[u8]) -> ReplyIn
+#[tactic(auto, unfolding(tool_read_spec::specs::Finding::find_kind))]
+fn by_kind(datagram: &[u8]) -> Option<ReplyIn>
     ensures { result ≡ find_kind (kind_of_reply (get_or datagram.now 1 0)) datagram.now }
 {
-    match tool_read_spec::reply_kind(cmd_fields::command_in(datagram)) {
+    match ReplyKind::from(cmd_fields::command_in(datagram)) {
         ReplyKind::Read => accesses::read(datagram),
-        ReplyKind::ReadFailure => accesses::read_failure(datagram),
+        ReplyKind::ReadFailure => Some(ReplyIn::ReadFailure(accesses::failure(datagram)?)),
         ReplyKind::WriteDone => accesses::written(datagram),
-        ReplyKind::WriteFailure => accesses::write_failure(datagram),
+        ReplyKind::WriteFailure => Some(ReplyIn::WriteFailure(accesses::failure(datagram)?)),
         ReplyKind::Options => inquiries::options(datagram),
         ReplyKind::Absent => inquiries::information(datagram, false),
         ReplyKind::Present => inquiries::information(datagram, true),
         ReplyKind::Locked => inquiries::locked(datagram),
-        ReplyKind::Other => ReplyIn::NoReply,
+        ReplyKind::Other => None,
     }
 }
 
 // Reads a reply datagram. What is found is what the language of replies says, and each datagram has one reading or
 // none.
-pub fn read_reply(datagram: &[u8]) -> ReplyIn
+#[tactic(auto, using(tool_read_spec::proofs::ReadingLaws::readings), unfolding(tool_read_spec::specs::Finding::find_reply))]
+pub fn read_reply(datagram: &[u8]) -> Option<ReplyIn>
     ensures fields { result ≡ find_reply datagram.now }
     ensures readings { Readings }
 {
     let length = datagram.len();
-    if length < 2 {
-        return ReplyIn::NoReply;
-    }
-    if 72 < length {
-        return ReplyIn::NoReply;
-    }
-    if datagram[0] != 0x20 {
-        return ReplyIn::NoReply;
+    if length < 2 || 72 < length || datagram[0] != 0x20 {
+        return None;
     }
     by_kind(datagram)
 }

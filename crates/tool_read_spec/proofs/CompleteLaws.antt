@@ -4,7 +4,7 @@ use Prim.Native.Nat.{ℕ, ◌+◌, ◌-◌, ◌*◌, ◌/◌, ◌%◌, ◌≤◌
 use mathlib.Core.Path.{◌≡◌, refl, sym, ap, ◌∙◌}
 use mathlib.Core.Bool.{Bool, true, false}
 use mathlib.Core.List.{List, [], ◌++◌, append-nil}
-use mathlib.Core.Option.{some}
+use Rattle.std.proofs.Common.{Some}
 use native.Mathlib.Nat.{add-zero}
 use native.Mathlib.Omega.{arith}
 use lib.ListN.{length, get_or, drop, length-drop}
@@ -15,7 +15,7 @@ use Rattle.cmd_fields.specs.Commands.{form_of, Names, head_bytes, form_in, head_
 use Rattle.cmd_fields.specs.declared.Form.{Form}
 use Rattle.cmd_fields.proofs.HeadLaws.{number-back, Headed, headed, form_back}
 use Rattle.reply_spec.specs.ReplyForms.{Text, text_bytes, Lowest, no_lowest, lowest, LowestAddress, no_address, lowest_address, address_bytes, Reply, read, read_failure, write_done, write_failure, options, information, locked, reply_bytes, Ended, EndedBehind, bit1, lowest_bit, WellFormed, IsReply}
-use Rattle.tool_read_spec.specs.Finding.{is_text, kind_of_reply, find_read, find_written, code_in, failure_fits, message_in, find_read_failure, find_write_failure, find_options, find_information, find_locked, find_kind, find_reply, text_of, reply_found}
+use Rattle.tool_read_spec.specs.Finding.{is_text, kind_of_reply, find_read, find_written, code_in, failure_fits, message_in, find_options, find_information, find_locked, find_kind, find_reply, text_of, reply_found}
 use Rattle.tool_read_spec.specs.declared.ReplyKind.{ReplyKind}
 use Rattle.tool_read_spec.specs.declared.ReplyKind.TheVariants as kind
 use Rattle.tool_read_spec.proofs.KindLaws.{is_read, is-read-failure, is-written, is-write-failure}
@@ -29,15 +29,15 @@ found-kind d k l h f e = rw (le-leb 2 (length d) l, le-leb (length d) 72 h, eq-e
 
 module _ (d : List ℕ) (short : length d ≤ 72) (form : Form) (space address : ℕ) (n : Names form space) where
   read-complete : (bytes : List ℕ) → 1 ≤ length bytes → length bytes ≤ 64 → Headed 0x50 form space address bytes d →
-      reply_found (find_reply d) d ≡ some (read form space address bytes)
+      reply_found (find_reply d) d ≡ Some (read form space address bytes)
   unfolding find_kind find_read reply_found
   read-complete bytes l h f =
       let e : form_in d ≡ form = ap form_of f.second ∙ form_back form space 0x50 n (omega arith) in
       let k = is_read (get_or d 1 0) (omega (arith, f.second, f.bits)) (omega (arith, f.second, f.bits)) in
       rw (found-kind d kind.Read (omega (arith, f.size, f.least)) short f.first k, e, lt-ltb (head_length form) (length d) (omega (arith, f.size)), le-leb (length d - head_length form) 64 (omega (arith, f.size)), f.named, f.addressed, f.behind)
-      (ap (λ (b : List ℕ). some (read form space address b)) (take_all (length d - head_length form) bytes (omega (arith, f.size))))
+      (ap (λ (b : List ℕ). Some (read form space address b)) (take_all (length d - head_length form) bytes (omega (arith, f.size))))
 
-  written-complete : Headed 0x10 form space address [] d → reply_found (find_reply d) d ≡ some (write_done form space address)
+  written-complete : Headed 0x10 form space address [] d → reply_found (find_reply d) d ≡ Some (write_done form space address)
   unfolding find_kind find_written reply_found
   written-complete f =
       let e : form_in d ≡ form = ap form_of f.second ∙ form_back form space 0x10 n (omega arith) in
@@ -71,16 +71,16 @@ module _ (d : List ℕ) (short : length d ≤ 72) (form : Form) (space address :
     is-message = rw e (text-found message d (head_length form + 2) message_behind (omega (arith, size)))
 
   read-failure_complete : (code : ℕ) (message : Text) → Ended message → length (text_bytes message) ≤ 63 →
-      Headed 0x58 form space address (two_bytes code ++ text_bytes message) d → reply_found (find_reply d) d ≡ some (read_failure form space address code message)
-  unfolding find_kind find_read_failure reply_found
+      Headed 0x58 form space address (two_bytes code ++ text_bytes message) d → reply_found (find_reply d) d ≡ Some (read_failure form space address code message)
+  unfolding find_kind reply_found
   read-failure_complete code message t h f =
       let e : form_in d ≡ form = ap form_of f.second ∙ form_back form space 0x58 n (omega arith) in
       let k = is-read-failure (get_or d 1 0) (omega (arith, f.second, f.bits)) (omega (arith, f.second, f.bits)) in
       rw (found-kind d kind.ReadFailure (omega (arith, f.size, f.least)) short f.first k, fits code message t h f e, is-message code message t h f e, is_code code message t h f e, e, f.named, f.addressed)
 
   write-failure_complete : (code : ℕ) (message : Text) → Ended message → length (text_bytes message) ≤ 63 →
-      Headed 0x18 form space address (two_bytes code ++ text_bytes message) d → reply_found (find_reply d) d ≡ some (write_failure form space address code message)
-  unfolding find_kind find_write_failure reply_found
+      Headed 0x18 form space address (two_bytes code ++ text_bytes message) d → reply_found (find_reply d) d ≡ Some (write_failure form space address code message)
+  unfolding find_kind reply_found
   write-failure_complete code message t h f =
       let e : form_in d ≡ form = ap form_of f.second ∙ form_back form space 0x18 n (omega arith) in
       let k = is-write-failure (get_or d 1 0) (omega (arith, f.second, f.bits)) (omega (arith, f.second, f.bits)) in
@@ -93,7 +93,7 @@ two_of_lem n = omega arith
 
 module _ (commands lengths highest : ℕ) where
   options-complete : (low : Lowest) → EndedBehind low → length (reply_bytes (options commands lengths highest low)) ≤ 72 →
-      reply_found (find_reply (reply_bytes (options commands lengths highest low))) (reply_bytes (options commands lengths highest low)) ≡ some (options commands lengths highest low)
+      reply_found (find_reply (reply_bytes (options commands lengths highest low))) (reply_bytes (options commands lengths highest low)) ≡ Some (options commands lengths highest low)
   unfolding kind_of_reply find_kind find_options reply_found is_text
   options-complete no_lowest t h =
       rw (found-kind (reply_bytes (options commands lengths highest no_lowest)) kind.Options (omega arith) h refl refl, two_of_lem commands)
@@ -106,7 +106,7 @@ module _ (commands lengths highest : ℕ) where
 module _ (present : Bool) (d : List ℕ) (space highest flags : ℕ) (description : Text) (t : Ended description) (s : get_or d 2 0 ≡ space)
     (h : number_of (get_or d 3 0) (get_or d 4 0) (get_or d 5 0) (get_or d 6 0) ≡ highest) (f : get_or d 7 0 ≡ flags) (l : 8 ≤ length d) where
   information-found : (low : LowestAddress) → bit1 flags ≡ lowest_bit low → drop 8 d ≡ address_bytes low ++ text_bytes description →
-      reply_found (find_information present d) d ≡ some (information present space highest flags low description)
+      reply_found (find_information present d) d ≡ Some (information present space highest flags low description)
   unfolding find_information reply_found
   information-found no_address z b =
       let is : is_text (drop 8 d) ≡ true = rw b (text-is description t) in
@@ -122,7 +122,7 @@ module _ (present : Bool) (d : List ℕ) (space highest flags : ℕ) (descriptio
 information-complete : (present : Bool) (space highest flags : ℕ) (low : LowestAddress) (description : Text) → bit1 flags ≡ lowest_bit low → Ended description →
     length (reply_bytes (information present space highest flags low description)) ≤ 72 →
     reply_found (find_reply (reply_bytes (information present space highest flags low description))) (reply_bytes (information present space highest flags low description))
-    ≡ some (information present space highest flags low description)
+    ≡ Some (information present space highest flags low description)
 unfolding find_kind kind_of_reply
 information-complete true space highest flags low description z t h =
     let d = reply_bytes (information true space highest flags low description) in
@@ -133,15 +133,15 @@ information-complete false space highest flags low description z t h =
 
 -- ---- the lock
 
-locked-complete : (id : List ℕ) → length id ≡ 6 → length (reply_bytes (locked id)) ≤ 72 → reply_found (find_reply (reply_bytes (locked id))) (reply_bytes (locked id)) ≡ some (locked id)
+locked-complete : (id : List ℕ) → length id ≡ 6 → length (reply_bytes (locked id)) ≤ 72 → reply_found (find_reply (reply_bytes (locked id))) (reply_bytes (locked id)) ≡ Some (locked id)
 unfolding find_kind kind_of_reply find_locked reply_found
 locked-complete id e h =
     let d = reply_bytes (locked id) in
-    rw (found-kind d kind.Locked (omega arith) h refl refl, eq-eqb (length d) 8 (omega arith)) (ap (λ (l : List ℕ). some (locked l)) (take_all 6 id (omega arith)))
+    rw (found-kind d kind.Locked (omega arith) h refl refl, eq-eqb (length d) 8 (omega arith)) (ap (λ (l : List ℕ). Some (locked l)) (take_all 6 id (omega arith)))
 
 -- ---- all
 
-complete-at : (x : Reply) → WellFormed x → length (reply_bytes x) ≤ 72 → reply_found (find_reply (reply_bytes x)) (reply_bytes x) ≡ some x
+complete-at : (x : Reply) → WellFormed x → length (reply_bytes x) ≤ 72 → reply_found (find_reply (reply_bytes x)) (reply_bytes x) ≡ Some x
 unfolding WellFormed
 complete-at (read form space address bytes) f h =
     read-complete (head_bytes 0x50 form space address ++ bytes) h form space address f.0 bytes f.1 f.2 (headed 0x50 form space address bytes f.0)
@@ -157,5 +157,5 @@ complete-at (options commands lengths highest low) f h = options-complete comman
 complete-at (information present space highest flags low description) f h = information-complete present space highest flags low description f.0 f.1 h
 complete-at (locked id) f h = locked-complete id f h
 
-pub complete : (d : List ℕ) (x : Reply) → IsReply d x → reply_found (find_reply d) d ≡ some x
+pub complete : (d : List ℕ) (x : Reply) → IsReply d x → reply_found (find_reply d) d ≡ Some x
 complete d x p = rw (← p.0) (complete-at x p.1 (rw p.0 p.2))

@@ -3,7 +3,6 @@
 use Prim.Native.Nat.{ℕ, ◌≤◌}
 use mathlib.Core.Path.{◌≡◌}
 use native.Mathlib.Omega.{arith}
-use borrow.Author.Tests.{ne_eqb}
 use Rattle.cmd_fields.proofs.Laws.{is_within, not_within}
 use Rattle.tool_read_spec.specs.Finding.{kind_of_reply}
 use Rattle.tool_read_spec.specs.declared.ReplyKind.TheVariants as kind
@@ -25,9 +24,3 @@ module _ (c : ℕ) where
   unfolding kind_of_reply
   is-write-failure p q =
       rw (not_within 0x50 0x53 c (λ a b. omega arith), not_within 0x58 0x5B c (λ a b. omega arith), not_within 0x10 0x13 c (λ a b. omega arith), is_within 0x18 0x1B c p q)
-
-  module _ (r : 0x50 ≤ c → c ≤ 0x53 → ⊥) (f : 0x58 ≤ c → c ≤ 0x5B → ⊥) (w : 0x10 ≤ c → c ≤ 0x13 → ⊥) (g : 0x18 ≤ c → c ≤ 0x1B → ⊥) where
-    pub is-other : (c ≡ 0x82 → ⊥) → (c ≡ 0x86 → ⊥) → (c ≡ 0x87 → ⊥) → (c ≡ 0x8A → ⊥) → kind_of_reply c ≡ kind.Other
-    unfolding kind_of_reply
-    is-other o a p l =
-        rw (not_within 0x50 0x53 c r, not_within 0x58 0x5B c f, not_within 0x10 0x13 c w, not_within 0x18 0x1B c g, ne_eqb c 0x82 o, ne_eqb c 0x86 a, ne_eqb c 0x87 p, ne_eqb c 0x8A l)

@@ -1,13 +1,13 @@
 -- Each datagram has the reading that the language gives it, or none.
 -- Assumes nothing.
 use mathlib.Core.Path.{◌≡◌, sym, ◌∙◌}
-use mathlib.Core.Option.{some}
+use Rattle.std.proofs.Common.{Some}
 use Rattle.reply_spec.specs.ReplyForms.{Reply}
 use Rattle.tool_read_spec.specs.Finding.{Readings}
 use Rattle.tool_read_spec.proofs.CompleteLaws.{complete}
 use Rattle.tool_read_spec.proofs.SoundLaws.{sound}
 
-same-reading : (x y : Reply) → some x ≡ some y → x ≡ y
+same-reading : (x y : Reply) → Some x ≡ Some y → x ≡ y
 same-reading x y e = cc
 
 pub readings : Readings

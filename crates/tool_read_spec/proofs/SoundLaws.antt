@@ -4,7 +4,7 @@ use Prim.Native.Nat.{ℕ, suc, ◌+◌, ◌-◌, ◌*◌, ◌≤◌, ◌<◌}
 use mathlib.Core.Path.{◌≡◌, refl, sym, ap, ◌∙◌}
 use mathlib.Core.Bool.{Bool, true, false, cond, ◌&&◌}
 use mathlib.Core.List.{List, [], ◌∷◌, ◌++◌, append-nil}
-use mathlib.Core.Option.{some}
+use Rattle.std.proofs.Common.{Option, None, Some}
 use native.Mathlib.Omega.{arith}
 use lib.Dec.{leb, ltb, eqb}
 use lib.ListN.{length, get_or, drop, length-drop, drop_of_length-le}
@@ -17,7 +17,7 @@ use Rattle.buffer.proofs.Ends.{part_rest}
 use Rattle.cmd_fields.specs.Commands.{within, form_in, space_of, address_of}
 use Rattle.cmd_fields.proofs.HeadLaws.{bytes_back, two_back, six-first, head_back}
 use Rattle.reply_spec.specs.ReplyForms.{Text, text_bytes, lowest_bytes, address_bytes, Reply, read, read_failure, write_done, write_failure, options, information, locked, Ended, EndedBehind, bit1, lowest_bit, WellFormed, IsReply}
-use Rattle.tool_read_spec.specs.Finding.{is_text, text_from, kind_of_reply, head_in, or_none, find_read, find_written, code_in, failure_fits, message_in, find_read_failure, find_write_failure, read_lowest, find_options, is_given, description_start, read_address, find_information, find_locked, find_kind, find_reply, bytes_from, text_of, lowest_of, lowest_address_of, reply_found}
+use Rattle.tool_read_spec.specs.Finding.{is_text, text_from, kind_of_reply, head_in, or_none, options_in, information_in, target_in, failure_in, span, find_read, find_written, code_in, failure_fits, message_in, find_read_failure, find_write_failure, read_lowest, find_options, is_given, description_start, read_address, find_information, find_locked, find_kind, find_reply, bytes_from, text_of, lowest_of, lowest_address_of, reply_found}
 use Rattle.tool_read_spec.specs.declared.ReplyIn.{ReplyIn}
 use Rattle.tool_read_spec.specs.declared.ReplyIn.TheVariants as found
 use Rattle.tool_read_spec.proofs.TextLaws.{text-sound}
@@ -33,18 +33,18 @@ two_first d i h =
     drop-cons d i 0 (omega arith) ∙ ap (λ (l : List ℕ). get_or d i 0 ∷ l) (rw (← a, ← b) (drop-cons d (suc i) 0 (omega arith)))
 
 module _ (d : List ℕ) where
-  abbrev Sound : ReplyIn → Type 0
-  Sound r = (x : Reply) → reply_found r d ≡ some x → IsReply d x
+  abbrev Sound : Option ReplyIn → Type 0
+  Sound r = (x : Reply) → reply_found r d ≡ Some x → IsReply d x
 
-  none-sound : Sound found.NoReply
+  none-sound : Sound None
   unfolding reply_found
   none-sound x e = let z : ◌≡◌ {A = ℕ} 0 1 = cc in absurd (omega arith)
 
   -- a reply that is what was found
-  same : (y : Reply) → IsReply d y → (x : Reply) → some y ≡ some x → IsReply d x
+  same : (y : Reply) → IsReply d y → (x : Reply) → Some y ≡ Some x → IsReply d x
   same y p x e = let q : y ≡ x = cc in rw (← q) p
 
-  or_none_lem : (t : Bool) (r : ReplyIn) → (t ≡ true → Sound r) → Sound (or_none t r)
+  or_none_lem : (t : Bool) (r : ReplyIn) → (t ≡ true → Sound (Some r)) → Sound (or_none t r)
   or_none_lem t r g = cond-elim Sound t g (λ _. none-sound)
 
   module _ (bytes : AllBytes d) (first : get_or d 0 0 ≡ 0x20) (short : length d ≤ 72) where
@@ -53,7 +53,7 @@ module _ (d : List ℕ) where
     read-sound : 0x50 ≤ get_or d 1 0 → get_or d 1 0 ≤ 0x53 → Sound (find_read d)
     unfolding find_read reply_found WellFormed
     read-sound l h =
-        or_none_lem (ltb (head_in d) (length d) && leb (length d - head_in d) 64) (found.Read (form_in d) (space_of (form_in d) d) (address_of d) (head_in d) (length d - head_in d)) (λ t.
+        or_none_lem (ltb (head_in d) (length d) && leb (length d - head_in d) 64) (found.Read (target_in d) (span (head_in d) (length d - head_in d))) (λ t.
         let a : head_in d < length d = ltb-true _ _ (and_left (ltb (head_in d) (length d)) _ t) in
         let b : length d - head_in d ≤ 64 = leb-true _ _ (and_right (ltb (head_in d) (length d)) _ t) in
         let p = head_back d bytes first 0x50 refl (omega arith) l h (omega arith) in
@@ -64,7 +64,7 @@ module _ (d : List ℕ) where
     written-sound : 0x10 ≤ get_or d 1 0 → get_or d 1 0 ≤ 0x13 → Sound (find_written d)
     unfolding find_written reply_found WellFormed
     written-sound l h =
-        or_none_lem (eqb (length d) (head_in d)) (found.WriteDone (form_in d) (space_of (form_in d) d) (address_of d)) (λ t.
+        or_none_lem (eqb (length d) (head_in d)) (found.WriteDone (target_in d)) (λ t.
         let a : length d ≡ head_in d = eqb-true _ _ t in
         let p = head_back d bytes first 0x10 refl (omega arith) l h (omega arith) in
         let n : drop (head_in d) d ≡ [] = drop_of_length-le d {i = head_in d} (omega arith) in
@@ -97,17 +97,17 @@ module _ (d : List ℕ) where
           ∙ rw is-text.1 (sym (two_first d (head_in d) room))
 
     read-failure_sound : 0x58 ≤ get_or d 1 0 → get_or d 1 0 ≤ 0x5B → Sound (find_read_failure d)
-    unfolding find_read_failure reply_found WellFormed message
+    unfolding reply_found WellFormed message
     read-failure_sound l h =
-        or_none_lem (failure_fits d) (found.ReadFailure (form_in d) (space_of (form_in d) d) (address_of d) (code_in d) (message_in d)) (λ t.
+        or_none_lem (failure_fits d) (found.ReadFailure (failure_in d)) (λ t.
         let p = head_back d bytes first 0x58 refl (omega arith) l h (omega (arith, room t)) in
         same (read_failure (form_in d) (space_of (form_in d) d) (address_of d) (code_in d) (message t))
         (rw (code-and-message t) p.0, (p.1, (is-text t).0, few t), short))
 
     write-failure_sound : 0x18 ≤ get_or d 1 0 → get_or d 1 0 ≤ 0x1B → Sound (find_write_failure d)
-    unfolding find_write_failure reply_found WellFormed message
+    unfolding reply_found WellFormed message
     write-failure_sound l h =
-        or_none_lem (failure_fits d) (found.WriteFailure (form_in d) (space_of (form_in d) d) (address_of d) (code_in d) (message_in d)) (λ t.
+        or_none_lem (failure_fits d) (found.WriteFailure (failure_in d)) (λ t.
         let p = head_back d bytes first 0x18 refl (omega arith) l h (omega (arith, room t)) in
         same (write_failure (form_in d) (space_of (form_in d) d) (address_of d) (code_in d) (message t))
         (rw (code-and-message t) p.0, (p.1, (is-text t).0, few t), short))
@@ -126,7 +126,7 @@ module _ (d : List ℕ) where
     options-sound : get_or d 1 0 ≡ 0x82 → Sound (find_options d)
     unfolding find_options reply_found WellFormed
     options-sound e =
-        or_none_lem (leb 6 (length d) && is_text (drop 7 d)) (found.Options (get_or d 2 0 * 256 + get_or d 3 0) (get_or d 4 0) (get_or d 5 0) (read_lowest d)) (λ t.
+        or_none_lem (leb 6 (length d) && is_text (drop 7 d)) (found.Options (options_in d)) (λ t.
         let l : 6 ≤ length d = leb-true _ _ (and_left (leb 6 (length d)) _ t) in
         let p = lowest-sound l (and_right (leb 6 (length d)) _ t) in
         same (options (get_or d 2 0 * 256 + get_or d 3 0) (get_or d 4 0) (get_or d 5 0) (lowest_of (read_lowest d) d)) (
@@ -167,7 +167,7 @@ module _ (d : List ℕ) where
     unfolding find_information reply_found WellFormed
     information-sound present e =
         or_none_lem (leb (description_start d) (length d) && is_text (drop (description_start d) d))
-        (found.Information present (get_or d 2 0) (number_of (get_or d 3 0) (get_or d 4 0) (get_or d 5 0) (get_or d 6 0)) (get_or d 7 0) (read_address d) (text_from (description_start d) (length d))) (λ t.
+        (found.Information (information_in present d)) (λ t.
         let p = low_sound (leb-true _ _ (and_left (leb (description_start d) (length d)) _ t)) (and_right (leb (description_start d) (length d)) _ t) in
         same (information present (get_or d 2 0) (number_of (get_or d 3 0) (get_or d 4 0) (get_or d 5 0) (get_or d 6 0)) (get_or d 7 0) (lowest_address_of (read_address d)) (text_of (text_from (description_start d) (length d)) d))
         (rw (p.3, ← e) (eight-first p.0), (p.1, p.2), short))
@@ -177,7 +177,7 @@ module _ (d : List ℕ) where
     locked-sound : get_or d 1 0 ≡ 0x8A → Sound (find_locked d)
     unfolding find_locked reply_found WellFormed
     locked-sound e =
-        or_none_lem (eqb (length d) 8) (found.Locked 2 6) (λ t.
+        or_none_lem (eqb (length d) 8) (found.Locked (span 2 6)) (λ t.
         let l : length d ≡ 8 = eqb-true _ _ t in
         let n : length (drop 2 d) ≡ 6 = length-drop 2 d ∙ omega arith in
         let a : bytes_from 2 6 d ≡ drop 2 d = take_all 6 (drop 2 d) (omega arith) in
@@ -202,6 +202,7 @@ module _ (d : List ℕ) where
   pub sound : AllBytes d → Sound (find_reply d)
   unfolding find_reply
   sound bytes =
-      or_none_lem (leb 2 (length d) && (leb (length d) 72 && eqb (get_or d 0 0) 0x20)) (find_kind (kind_of_reply (get_or d 1 0)) d) (λ t.
+      cond-elim Sound (leb 2 (length d) && (leb (length d) 72 && eqb (get_or d 0 0) 0x20)) (λ t.
       let u = and_right (leb 2 (length d)) _ t in
       kind-sound bytes (eqb-true _ _ (and_right (leb (length d) 72) _ u)) (leb-true _ _ (and_left (leb (length d) 72) _ u)))
+      (λ _. none-sound)

@@ -1,17 +1,16 @@
 -- How a reader finds the fields of a reply in a datagram, which are numbers or say where bytes stand; and that it finds
 -- what the language of replies says, and nothing else.
-use Rattle.std.specs.Prelude.{ℕ, suc, ◌+◌, ◌-◌, ◌*◌, ◌≡◌, Bool, true, false, cond, ◌&&◌, ◌||◌, List, [], ◌∷◌, leb, ltb, eqb, length, get_or, take, drop}
-use Rattle.std.proofs.Math.Option.{Option, none, some}
+use Rattle.std.specs.Prelude.{ℕ, suc, ◌+◌, ◌-◌, ◌*◌, ◌≡◌, Bool, true, false, cond, ◌&&◌, ◌||◌, List, [], ◌∷◌, leb, ltb, eqb, length, get_or, take, drop, Option, Some, None}
 use Rattle.buffer.specs.Buffer.{AllBytes}
 use Rattle.buffer.specs.BigEndian.{number_of}
 use Rattle.cmd_fields.specs.Commands.{within, form_in, head_length, space_of, address_of}
 use Rattle.reply_spec.specs.ReplyForms.{Text, no_text, text, Lowest, no_lowest, lowest, LowestAddress, no_address, lowest_address, Reply, read, read_failure, write_done, write_failure, options, information, locked, bit1, IsReply}
-use Rattle.tool_read_spec.specs.declared.TextIn.{TextIn}
-use Rattle.tool_read_spec.specs.declared.TextIn.TheVariants.{NoText, TextAt}
-use Rattle.tool_read_spec.specs.declared.LowestIn.{LowestIn}
-use Rattle.tool_read_spec.specs.declared.LowestIn.TheVariants.{NoLowest, LowestSpace}
-use Rattle.tool_read_spec.specs.declared.AddressIn.{AddressIn}
-use Rattle.tool_read_spec.specs.declared.AddressIn.TheVariants.{NoAddress, AddressIs}
+use Rattle.tool_read_spec.specs.declared.Span.{Span}
+use Rattle.tool_read_spec.specs.declared.Target.{Target}
+use Rattle.tool_read_spec.specs.declared.Failure.{Failure}
+use Rattle.tool_read_spec.specs.declared.LowestSpace.{LowestSpace}
+use Rattle.tool_read_spec.specs.declared.Options.{Options}
+use Rattle.tool_read_spec.specs.declared.Information.{Information}
 use Rattle.tool_read_spec.specs.declared.ReplyKind.{ReplyKind}
 use Rattle.tool_read_spec.specs.declared.ReplyKind.TheVariants as kind
 use Rattle.tool_read_spec.specs.declared.ReplyIn.{ReplyIn}
@@ -28,9 +27,12 @@ first_zero (c ∷ more) = cond (eqb c 0) 0 (suc (first_zero more))
 unfoldable pub is_text : List ℕ → Bool
 is_text bytes = eqb (length bytes) 0 || eqb (first_zero bytes + 1) (length bytes)
 
+abbrev pub span : ℕ → ℕ → Span
+span start n = record { start = start; length = n }
+
 -- The text from an index to the end of a datagram, without its zero byte.
-abbrev pub text_from : ℕ → ℕ → TextIn
-text_from start end = cond (leb end start) NoText (TextAt start (end - start - 1))
+abbrev pub text_from : ℕ → ℕ → Option Span
+text_from start end = cond (leb end start) None (Some (span start (end - start - 1)))
 
 -- ---- datagrams
 
@@ -49,16 +51,19 @@ kind_of_reply c =
 abbrev pub head_in : List ℕ → ℕ
 head_in d = head_length (form_in d)
 
-abbrev pub or_none : Bool → ReplyIn → ReplyIn
-or_none right r = cond right r found.NoReply
+abbrev pub or_none : Bool → ReplyIn → Option ReplyIn
+or_none right r = cond right (Some r) None
 
-unfoldable pub find_read : List ℕ → ReplyIn
+abbrev pub target_in : List ℕ → Target
+target_in d = record { form = form_in d; space = space_of (form_in d) d; address = address_of d }
+
+unfoldable pub find_read : List ℕ → Option ReplyIn
 find_read d =
     or_none (ltb (head_in d) (length d) && leb (length d - head_in d) 64)
-    (found.Read (form_in d) (space_of (form_in d) d) (address_of d) (head_in d) (length d - head_in d))
+    (found.Read (target_in d) (span (head_in d) (length d - head_in d)))
 
-unfoldable pub find_written : List ℕ → ReplyIn
-find_written d = or_none (eqb (length d) (head_in d)) (found.WriteDone (form_in d) (space_of (form_in d) d) (address_of d))
+unfoldable pub find_written : List ℕ → Option ReplyIn
+find_written d = or_none (eqb (length d) (head_in d)) (found.WriteDone (target_in d))
 
 -- A number of two bytes from an index on, most significant first.
 abbrev pub two_bytes_at : ℕ → List ℕ → ℕ
@@ -71,22 +76,31 @@ code_in d = two_bytes_at (head_in d) d
 unfoldable pub failure_fits : List ℕ → Bool
 failure_fits d = leb (head_in d + 2) (length d) && (leb (length d - (head_in d + 2)) 63 && is_text (drop (head_in d + 2) d))
 
-abbrev pub message_in : List ℕ → TextIn
+abbrev pub message_in : List ℕ → Option Span
 message_in d = text_from (head_in d + 2) (length d)
 
-unfoldable pub find_read_failure : List ℕ → ReplyIn
-find_read_failure d = or_none (failure_fits d) (found.ReadFailure (form_in d) (space_of (form_in d) d) (address_of d) (code_in d) (message_in d))
+abbrev pub failure_in : List ℕ → Failure
+failure_in d = record { target = target_in d; code = code_in d; message = message_in d }
 
-unfoldable pub find_write_failure : List ℕ → ReplyIn
-find_write_failure d = or_none (failure_fits d) (found.WriteFailure (form_in d) (space_of (form_in d) d) (address_of d) (code_in d) (message_in d))
+abbrev pub find_read_failure : List ℕ → Option ReplyIn
+find_read_failure d = or_none (failure_fits d) (found.ReadFailure (failure_in d))
 
-abbrev pub read_lowest : List ℕ → LowestIn
-read_lowest d = cond (eqb (length d) 6) NoLowest (LowestSpace (get_or d 6 0) (text_from 7 (length d)))
+abbrev pub find_write_failure : List ℕ → Option ReplyIn
+find_write_failure d = or_none (failure_fits d) (found.WriteFailure (failure_in d))
 
-unfoldable pub find_options : List ℕ → ReplyIn
+abbrev pub lowest_named : ℕ → Option Span → LowestSpace
+lowest_named space name = record { space = space; name = name }
+
+abbrev pub read_lowest : List ℕ → Option LowestSpace
+read_lowest d = cond (eqb (length d) 6) None (Some (lowest_named (get_or d 6 0) (text_from 7 (length d))))
+
+abbrev pub options_in : List ℕ → Options
+options_in d = record { commands = two_bytes_at 2 d; write_lengths = get_or d 4 0; highest_space = get_or d 5 0; lowest = read_lowest d }
+
+unfoldable pub find_options : List ℕ → Option ReplyIn
 find_options d =
     or_none (leb 6 (length d) && is_text (drop 7 d))
-    (found.Options (two_bytes_at 2 d) (get_or d 4 0) (get_or d 5 0) (read_lowest d))
+    (found.Options (options_in d))
 
 -- Whether a space's lowest address is given, and where its description begins.
 abbrev pub is_given : List ℕ → Bool
@@ -95,18 +109,29 @@ is_given d = eqb (bit1 (get_or d 7 0)) 1
 abbrev pub description_start : List ℕ → ℕ
 description_start d = cond (is_given d) 12 8
 
-abbrev pub read_address : List ℕ → AddressIn
-read_address d = cond (is_given d) (AddressIs (number_of (get_or d 8 0) (get_or d 9 0) (get_or d 10 0) (get_or d 11 0))) NoAddress
+abbrev pub read_address : List ℕ → Option ℕ
+read_address d = cond (is_given d) (Some (number_of (get_or d 8 0) (get_or d 9 0) (get_or d 10 0) (get_or d 11 0))) None
 
-unfoldable pub find_information : Bool → List ℕ → ReplyIn
+abbrev pub information_in : Bool → List ℕ → Information
+information_in present d =
+    record {
+      present = present;
+      space = get_or d 2 0;
+      highest_address = number_of (get_or d 3 0) (get_or d 4 0) (get_or d 5 0) (get_or d 6 0);
+      flags = get_or d 7 0;
+      lowest_address = read_address d;
+      description = text_from (description_start d) (length d);
+    }
+
+unfoldable pub find_information : Bool → List ℕ → Option ReplyIn
 find_information present d =
     or_none (leb (description_start d) (length d) && is_text (drop (description_start d) d))
-    (found.Information present (get_or d 2 0) (number_of (get_or d 3 0) (get_or d 4 0) (get_or d 5 0) (get_or d 6 0)) (get_or d 7 0) (read_address d) (text_from (description_start d) (length d)))
+    (found.Information (information_in present d))
 
-unfoldable pub find_locked : List ℕ → ReplyIn
-find_locked d = or_none (eqb (length d) 8) (found.Locked 2 6)
+unfoldable pub find_locked : List ℕ → Option ReplyIn
+find_locked d = or_none (eqb (length d) 8) (found.Locked (span 2 6))
 
-unfoldable pub find_kind : ReplyKind → List ℕ → ReplyIn
+unfoldable pub find_kind : ReplyKind → List ℕ → Option ReplyIn
 find_kind kind.Read d = find_read d
 find_kind kind.ReadFailure d = find_read_failure d
 find_kind kind.WriteDone d = find_written d
@@ -115,47 +140,50 @@ find_kind kind.Options d = find_options d
 find_kind kind.Absent d = find_information false d
 find_kind kind.Present d = find_information true d
 find_kind kind.Locked d = find_locked d
-find_kind kind.Other d = found.NoReply
+find_kind kind.Other d = None
 
 -- W3 for "bytes in no reply form of source document 000 for these commands", and for over 72 bytes.
-unfoldable pub find_reply : List ℕ → ReplyIn
+unfoldable pub find_reply : List ℕ → Option ReplyIn
 find_reply d =
-    or_none (leb 2 (length d) && (leb (length d) 72 && eqb (get_or d 0 0) 0x20))
-    (find_kind (kind_of_reply (get_or d 1 0)) d)
+    cond (leb 2 (length d) && (leb (length d) 72 && eqb (get_or d 0 0) 0x20))
+    (find_kind (kind_of_reply (get_or d 1 0)) d) None
 
 -- ---- what was found, as the reply that it stands for; W3 stands for none
 
 abbrev pub bytes_from : ℕ → ℕ → List ℕ → List ℕ
 bytes_from start n d = take n (drop start d)
 
-abbrev pub text_of : TextIn → List ℕ → Text
-text_of NoText d = no_text
-text_of (TextAt start n) d = text (bytes_from start n d)
+abbrev pub bytes_in : Span → List ℕ → List ℕ
+bytes_in s d = bytes_from s.start s.length d
 
-abbrev pub lowest_of : LowestIn → List ℕ → Lowest
-lowest_of NoLowest d = no_lowest
-lowest_of (LowestSpace space name) d = lowest space (text_of name d)
+abbrev pub text_of : Option Span → List ℕ → Text
+text_of None d = no_text
+text_of (Some s) d = text (bytes_in s d)
 
-abbrev pub lowest_address_of : AddressIn → LowestAddress
-lowest_address_of NoAddress = no_address
-lowest_address_of (AddressIs a) = lowest_address a
+abbrev pub lowest_of : Option LowestSpace → List ℕ → Lowest
+lowest_of None d = no_lowest
+lowest_of (Some l) d = lowest l.space (text_of l.name d)
 
-unfoldable pub reply_found : ReplyIn → List ℕ → Option Reply
-reply_found found.NoReply d = none
-reply_found (found.Read form space address start n) d = some (read form space address (bytes_from start n d))
-reply_found (found.ReadFailure form space address code message) d = some (read_failure form space address code (text_of message d))
-reply_found (found.WriteDone form space address) d = some (write_done form space address)
-reply_found (found.WriteFailure form space address code message) d = some (write_failure form space address code (text_of message d))
-reply_found (found.Options commands lengths highest low) d = some (options commands lengths highest (lowest_of low d))
-reply_found (found.Information present space highest flags low description) d =
-    some (information present space highest flags (lowest_address_of low) (text_of description d))
-reply_found (found.Locked start n) d = some (locked (bytes_from start n d))
+abbrev pub lowest_address_of : Option ℕ → LowestAddress
+lowest_address_of None = no_address
+lowest_address_of (Some a) = lowest_address a
+
+unfoldable pub reply_found : Option ReplyIn → List ℕ → Option Reply
+reply_found None d = None
+reply_found (Some (found.Read t s)) d = Some (read t.form t.space t.address (bytes_in s d))
+reply_found (Some (found.ReadFailure f)) d = Some (read_failure f.target.form f.target.space f.target.address f.code (text_of f.message d))
+reply_found (Some (found.WriteDone t)) d = Some (write_done t.form t.space t.address)
+reply_found (Some (found.WriteFailure f)) d = Some (write_failure f.target.form f.target.space f.target.address f.code (text_of f.message d))
+reply_found (Some (found.Options o)) d = Some (options o.commands o.write_lengths o.highest_space (lowest_of o.lowest d))
+reply_found (Some (found.Information i)) d =
+    Some (information i.present i.space i.highest_address i.flags (lowest_address_of i.lowest_address) (text_of i.description d))
+reply_found (Some (found.Locked s)) d = Some (locked (bytes_in s d))
 
 -- Of every list of bytes: a reply is found if and only if the datagram is that reply, so that it has one reading or
 -- none.
 pub record OneReading (d : List ℕ) : Type 0 where
-  pub sound : (x : Reply) → reply_found (find_reply d) d ≡ some x → IsReply d x
-  pub complete : (x : Reply) → IsReply d x → reply_found (find_reply d) d ≡ some x
+  pub sound : (x : Reply) → reply_found (find_reply d) d ≡ Some x → IsReply d x
+  pub complete : (x : Reply) → IsReply d x → reply_found (find_reply d) d ≡ Some x
   pub one : (x y : Reply) → IsReply d x → IsReply d y → x ≡ y
 
 abbrev pub Readings : Type 0

@@ -1,14 +1,16 @@
 -- The bytes of a reply stand for it alone, and kind 0 for W3 alone.
 -- Assumes nothing.
 use mathlib.Core.Path.{◌≡◌, refl, ap, ◌∙◌}
-use mathlib.Core.Bool.{cond}
+use Prim.Native.Nat.{ℕ}
+use mathlib.Core.Bool.{Bool, cond}
 use lib.Dec.{eqb}
 use Rattle.cmd_fields.specs.declared.Form.{Form}
 use Rattle.cmd_fields.specs.declared.Form.TheVariants.{NoSpace, Byte6, Fd, Fe, Ff}
-use Rattle.tool_read_spec.specs.declared.TextIn.{TextIn}
-use Rattle.tool_read_spec.specs.declared.TextIn.TheVariants.{NoText, TextAt}
-use Rattle.tool_read_spec.specs.declared.LowestIn.TheVariants.{NoLowest, LowestSpace}
-use Rattle.tool_read_spec.specs.declared.AddressIn.TheVariants.{NoAddress, AddressIs}
+use Rattle.std.proofs.Common.{Option, Some, None}
+use Rattle.tool_read_spec.specs.declared.Span.{Span}
+use Rattle.tool_read_spec.specs.declared.LowestSpace.{LowestSpace}
+use Rattle.tool_read_spec.specs.declared.Options.{Options}
+use Rattle.tool_read_spec.specs.declared.Information.{Information}
 use Rattle.tool_read_spec.specs.declared.ReplyIn.{ReplyIn}
 use Rattle.tool_read_spec.specs.declared.ReplyIn.TheVariants as found
 use Rattle.tool_result_spec.specs.declared.ReplyFields.{ReplyFields}
@@ -23,36 +25,53 @@ form_back Fd = refl
 form_back Fe = refl
 form_back Ff = refl
 
-text-back : (text : TextIn) → text_is (text_range text) ≡ text
-text-back NoText = refl
-text-back (TextAt start n) = refl
+text-back : (text : Option Span) → text_is (text_range text) ≡ text
+text-back None = refl
+text-back (Some s) = refl
 
-numbers_apart : (r : ReplyIn) → reply_is (fields_of_reply r) ≡ r
+module _ (commands lengths highest : ℕ) where
+  abbrev some_options : Option LowestSpace → Options
+  some_options low = record { commands = commands; write_lengths = lengths; highest_space = highest; lowest = low }
+
+  options_apart : (low : Option LowestSpace) → reply_is (fields_of_reply (Some (found.Options (some_options low)))) ≡ Some (found.Options (some_options low))
+  unfolding fields_of_reply reply_is
+  options_apart None = refl
+  options_apart (Some l) = rw (text-back l.name)
+
+module _ (present : Bool) (space highest flags : ℕ) (description : Option Span) where
+  abbrev some_information : Option ℕ → Information
+  some_information low =
+      record { present = present; space = space; highest_address = highest; flags = flags; lowest_address = low; description = description }
+
+  information_apart : (low : Option ℕ) → reply_is (fields_of_reply (Some (found.Information (some_information low)))) ≡ Some (found.Information (some_information low))
+  unfolding fields_of_reply reply_is
+  information_apart None = rw (text-back description)
+  information_apart (Some a) = rw (text-back description)
+
+numbers_apart : (r : Option ReplyIn) → reply_is (fields_of_reply r) ≡ r
 unfolding fields_of_reply reply_is
-numbers_apart found.NoReply = refl
-numbers_apart (found.Read form space address start n) = rw (form_back form)
-numbers_apart (found.ReadFailure form space address code message) = rw (form_back form, text-back message)
-numbers_apart (found.WriteDone form space address) = rw (form_back form)
-numbers_apart (found.WriteFailure form space address code message) = rw (form_back form, text-back message)
-numbers_apart (found.Options commands lengths highest NoLowest) = refl
-numbers_apart (found.Options commands lengths highest (LowestSpace space name)) = rw (text-back name)
-numbers_apart (found.Information present space highest flags NoAddress description) = rw (text-back description)
-numbers_apart (found.Information present space highest flags (AddressIs low) description) = rw (text-back description)
-numbers_apart (found.Locked start n) = refl
+numbers_apart None = refl
+numbers_apart (Some (found.Read t s)) = rw (form_back t.form)
+numbers_apart (Some (found.ReadFailure f)) = rw (form_back f.target.form, text-back f.message)
+numbers_apart (Some (found.WriteDone t)) = rw (form_back t.form)
+numbers_apart (Some (found.WriteFailure f)) = rw (form_back f.target.form, text-back f.message)
+numbers_apart (Some (found.Options o)) = options_apart o.commands o.write_lengths o.highest_space o.lowest
+numbers_apart (Some (found.Information i)) = information_apart i.present i.space i.highest_address i.flags i.description i.lowest_address
+numbers_apart (Some (found.Locked s)) = refl
 
 pub told_apart : ToldApart
 told_apart r = ap reply_is (reply-back (fields_of_reply r)) ∙ numbers_apart r
 
-refusal-kind : (r : ReplyIn) → cond (eqb (fields_of_reply r).kind 0) w3 not_refused ≡ reply_refusal r
+refusal-kind : (r : Option ReplyIn) → cond (eqb (fields_of_reply r).kind 0) w3 not_refused ≡ reply_refusal r
 unfolding fields_of_reply
-refusal-kind found.NoReply = refl
-refusal-kind (found.Read form space address start n) = refl
-refusal-kind (found.ReadFailure form space address code message) = refl
-refusal-kind (found.WriteDone form space address) = refl
-refusal-kind (found.WriteFailure form space address code message) = refl
-refusal-kind (found.Options commands lengths highest low) = refl
-refusal-kind (found.Information present space highest flags low description) = refl
-refusal-kind (found.Locked start n) = refl
+refusal-kind None = refl
+refusal-kind (Some (found.Read t s)) = refl
+refusal-kind (Some (found.ReadFailure f)) = refl
+refusal-kind (Some (found.WriteDone t)) = refl
+refusal-kind (Some (found.WriteFailure f)) = refl
+refusal-kind (Some (found.Options o)) = refl
+refusal-kind (Some (found.Information i)) = refl
+refusal-kind (Some (found.Locked s)) = refl
 
-pub reply-refusal : (r : ReplyIn) → reply_refusal_in (reply_fields_bytes (fields_of_reply r)) ≡ reply_refusal r
+pub reply-refusal : (r : Option ReplyIn) → reply_refusal_in (reply_fields_bytes (fields_of_reply r)) ≡ reply_refusal r
 reply-refusal r = ap (λ (f : ReplyFields). cond (eqb f.kind 0) w3 not_refused) (reply-back (fields_of_reply r)) ∙ refusal-kind r

@@ -1,19 +1,18 @@
 -- What the tool's writer and readers give, as numbers for a caller in C: the number of each case, and its values.
-use Rattle.std.specs.Prelude.{ℕ, ◌≡◌, Bool, true, false, cond, List, eqb, Result, Ok, Err}
+use Rattle.std.specs.Prelude.{ℕ, ◌≡◌, Bool, true, false, cond, List, eqb, Option, Some, None, Result, Ok, Err}
 use Rattle.cmd_fields.specs.declared.Form.{Form}
 use Rattle.cmd_fields.specs.declared.Form.TheVariants.{NoSpace, Byte6, Fd, Fe, Ff}
 use Rattle.tool_write_spec.specs.declared.WriteError.{WriteError}
 use Rattle.tool_write_spec.specs.declared.WriteError.TheVariants.{OutOfRange, NoRoom}
-use Rattle.tool_read_ack.specs.declared.ReceivedIn.{ReceivedIn}
-use Rattle.tool_read_ack.specs.declared.ReceivedIn.TheVariants.{NotReceived, Received}
-use Rattle.tool_read_ack.specs.declared.RejectionIn.{RejectionIn}
-use Rattle.tool_read_ack.specs.declared.RejectionIn.TheVariants.{NotRejection, Rejection}
-use Rattle.tool_read_spec.specs.declared.TextIn.{TextIn}
-use Rattle.tool_read_spec.specs.declared.TextIn.TheVariants.{NoText, TextAt}
-use Rattle.tool_read_spec.specs.declared.LowestIn.{LowestIn}
-use Rattle.tool_read_spec.specs.declared.LowestIn.TheVariants.{NoLowest, LowestSpace}
-use Rattle.tool_read_spec.specs.declared.AddressIn.{AddressIn}
-use Rattle.tool_read_spec.specs.declared.AddressIn.TheVariants.{NoAddress, AddressIs}
+use Rattle.tool_read_ack.specs.declared.Received.{Received}
+use Rattle.tool_read_ack.specs.declared.Rejection.{Rejection}
+use Rattle.tool_read_spec.specs.Finding.{span, lowest_named}
+use Rattle.tool_read_spec.specs.declared.Span.{Span}
+use Rattle.tool_read_spec.specs.declared.Target.{Target}
+use Rattle.tool_read_spec.specs.declared.Failure.{Failure}
+use Rattle.tool_read_spec.specs.declared.LowestSpace.{LowestSpace}
+use Rattle.tool_read_spec.specs.declared.Options.{Options}
+use Rattle.tool_read_spec.specs.declared.Information.{Information}
 use Rattle.tool_read_spec.specs.declared.ReplyIn.{ReplyIn}
 use Rattle.tool_read_spec.specs.declared.ReplyIn.TheVariants as found
 use Rattle.tool_result_spec.specs.Layout.{reply_fields_bytes, reply_in}
@@ -53,21 +52,21 @@ composed_of (Ok n) = record { refusal = tool_refusal_number not_refused; length 
 -- ---- Received OK and Rejected
 
 -- "the reader gives W3 for a Received OK over 1 byte .. and for all else every field"
-abbrev pub acknowledged_of : ReceivedIn → Acknowledged
-acknowledged_of NotReceived = record { refusal = tool_refusal_number w3; pending = false; timeout = 0 }
-acknowledged_of (Received pending timeout) =
-    record { refusal = tool_refusal_number not_refused; pending = pending; timeout = timeout }
+abbrev pub acknowledged_of : Option Received → Acknowledged
+acknowledged_of None = record { refusal = tool_refusal_number w3; pending = false; timeout = 0 }
+acknowledged_of (Some r) =
+    record { refusal = tool_refusal_number not_refused; pending = r.pending; timeout = r.timeout }
 
 abbrev pub no_range : ByteRange
 no_range = record { given = false; start = 0; length = 0 }
 
-abbrev pub range_at : ℕ → ℕ → ByteRange
-range_at start n = record { given = true; start = start; length = n }
+abbrev pub range_at : Span → ByteRange
+range_at s = record { given = true; start = s.start; length = s.length }
 
 -- W3 for "a Rejected over 66", and for all else every field.
-abbrev pub rejection_of : RejectionIn → RejectionFields
-rejection_of NotRejection = record { refusal = tool_refusal_number w3; code = 0; further = no_range }
-rejection_of (Rejection code start n) = record { refusal = tool_refusal_number not_refused; code = code; further = range_at start n }
+abbrev pub rejection_of : Option Rejection → RejectionFields
+rejection_of None = record { refusal = tool_refusal_number w3; code = 0; further = no_range }
+rejection_of (Some r) = record { refusal = tool_refusal_number not_refused; code = r.code; further = range_at r.further }
 
 -- ---- replies
 
@@ -80,9 +79,9 @@ form_number Fe = 2
 form_number Ff = 3
 
 -- An empty text is given, and has no bytes.
-abbrev pub text_range : TextIn → ByteRange
-text_range NoText = no_range
-text_range (TextAt start n) = range_at start n
+abbrev pub text_range : Option Span → ByteRange
+text_range None = no_range
+text_range (Some s) = range_at s
 
 abbrev pub no_options : OptionsFields
 no_options = record { commands = 0; write_lengths = 0; highest_space = 0; has_lowest_space = false; lowest_space = 0 }
@@ -90,51 +89,45 @@ no_options = record { commands = 0; write_lengths = 0; highest_space = 0; has_lo
 abbrev pub no_information : InformationFields
 no_information = record { highest_address = 0; lowest_address = 0; flags = 0; present = false; has_lowest_address = false }
 
-abbrev pub access_fields : ℕ → Form → ℕ → ℕ → ℕ → ByteRange → ReplyFields
-access_fields kind form space address code bytes =
-    record { kind = kind; address = address; code = code; space = space; form = form_number form; options = no_options; information = no_information; bytes = bytes }
+abbrev pub access_fields : ℕ → Target → ℕ → ByteRange → ReplyFields
+access_fields kind t code bytes =
+    record { kind = kind; address = t.address; code = code; space = t.space; form = form_number t.form; options = no_options; information = no_information; bytes = bytes }
 
 abbrev pub about_fields : ℕ → ℕ → OptionsFields → InformationFields → ByteRange → ReplyFields
 about_fields kind space options information bytes =
     record { kind = kind; address = 0; code = 0; space = space; form = 0; options = options; information = information; bytes = bytes }
 
-abbrev pub options_of : ℕ → ℕ → ℕ → LowestIn → OptionsFields
-options_of commands lengths highest NoLowest =
+abbrev pub options_of : ℕ → ℕ → ℕ → Option LowestSpace → OptionsFields
+options_of commands lengths highest None =
     record { commands = commands; write_lengths = lengths; highest_space = highest; has_lowest_space = false; lowest_space = 0 }
-options_of commands lengths highest (LowestSpace space name) =
-    record { commands = commands; write_lengths = lengths; highest_space = highest; has_lowest_space = true; lowest_space = space }
+options_of commands lengths highest (Some l) =
+    record { commands = commands; write_lengths = lengths; highest_space = highest; has_lowest_space = true; lowest_space = l.space }
 
-abbrev pub name_bytes : LowestIn → ByteRange
-name_bytes NoLowest = no_range
-name_bytes (LowestSpace space name) = text_range name
+abbrev pub name_bytes : Option LowestSpace → ByteRange
+name_bytes None = no_range
+name_bytes (Some l) = text_range l.name
 
-abbrev pub information_of : Bool → ℕ → ℕ → AddressIn → InformationFields
-information_of present highest flags NoAddress =
+abbrev pub information_of : Bool → ℕ → ℕ → Option ℕ → InformationFields
+information_of present highest flags None =
     record { highest_address = highest; lowest_address = 0; flags = flags; present = present; has_lowest_address = false }
-information_of present highest flags (AddressIs low) =
+information_of present highest flags (Some low) =
     record { highest_address = highest; lowest_address = low; flags = flags; present = present; has_lowest_address = true }
 
-unfoldable pub fields_of_reply : ReplyIn → ReplyFields
-fields_of_reply found.NoReply = access_fields 0 Byte6 0 0 0 no_range
-fields_of_reply (found.Read form space address start n) = access_fields 1 form space address 0 (range_at start n)
-fields_of_reply (found.ReadFailure form space address code message) = access_fields 2 form space address code (text_range message)
-fields_of_reply (found.WriteDone form space address) = access_fields 3 form space address 0 no_range
-fields_of_reply (found.WriteFailure form space address code message) = access_fields 4 form space address code (text_range message)
-fields_of_reply (found.Options commands lengths highest low) = about_fields 5 0 (options_of commands lengths highest low) no_information (name_bytes low)
-fields_of_reply (found.Information present space highest flags low description) =
-    about_fields 6 space no_options (information_of present highest flags low) (text_range description)
-fields_of_reply (found.Locked start n) = about_fields 7 0 no_options no_information (range_at start n)
+unfoldable pub fields_of_reply : Option ReplyIn → ReplyFields
+fields_of_reply None = about_fields 0 0 no_options no_information no_range
+fields_of_reply (Some (found.Read t s)) = access_fields 1 t 0 (range_at s)
+fields_of_reply (Some (found.ReadFailure f)) = access_fields 2 f.target f.code (text_range f.message)
+fields_of_reply (Some (found.WriteDone t)) = access_fields 3 t 0 no_range
+fields_of_reply (Some (found.WriteFailure f)) = access_fields 4 f.target f.code (text_range f.message)
+fields_of_reply (Some (found.Options o)) = about_fields 5 0 (options_of o.commands o.write_lengths o.highest_space o.lowest) no_information (name_bytes o.lowest)
+fields_of_reply (Some (found.Information i)) =
+    about_fields 6 i.space no_options (information_of i.present i.highest_address i.flags i.lowest_address) (text_range i.description)
+fields_of_reply (Some (found.Locked s)) = about_fields 7 0 no_options no_information (range_at s)
 
 -- W3 for "bytes in no reply form of source document 000 for these commands", and for no others.
-abbrev pub reply_refusal : ReplyIn → ToolRefusal
-reply_refusal found.NoReply = w3
-reply_refusal (found.Read form space address start n) = not_refused
-reply_refusal (found.ReadFailure form space address code message) = not_refused
-reply_refusal (found.WriteDone form space address) = not_refused
-reply_refusal (found.WriteFailure form space address code message) = not_refused
-reply_refusal (found.Options commands lengths highest low) = not_refused
-reply_refusal (found.Information present space highest flags low description) = not_refused
-reply_refusal (found.Locked start n) = not_refused
+abbrev pub reply_refusal : Option ReplyIn → ToolRefusal
+reply_refusal None = w3
+reply_refusal (Some r) = not_refused
 
 -- A reply has no field for a refusal: W3 is kind 0 in its bytes.
 abbrev pub reply_refusal_in : List ℕ → ToolRefusal
@@ -146,27 +139,56 @@ reply_refusal_in bytes = cond (eqb (reply_in bytes).kind 0) w3 not_refused
 abbrev pub form_is : ℕ → Form
 form_is n = cond (eqb n 0) Byte6 (cond (eqb n 1) Fd (cond (eqb n 2) Fe (cond (eqb n 3) Ff NoSpace)))
 
-abbrev pub text_is : ByteRange → TextIn
-text_is b = cond b.given (TextAt b.start b.length) NoText
+abbrev pub target_is : ReplyFields → Target
+target_is f = record { form = form_is f.form; space = f.space; address = f.address }
 
-abbrev pub lowest_given : OptionsFields → ByteRange → LowestIn
-lowest_given o b = cond o.has_lowest_space (LowestSpace o.lowest_space (text_is b)) NoLowest
+abbrev pub span_is : ByteRange → Span
+span_is b = span b.start b.length
 
-abbrev pub address_given : InformationFields → AddressIn
-address_given i = cond i.has_lowest_address (AddressIs i.lowest_address) NoAddress
+abbrev pub text_is : ByteRange → Option Span
+text_is b = cond b.given (Some (span_is b)) None
 
-unfoldable pub reply_is : ReplyFields → ReplyIn
+abbrev pub failure_is : ReplyFields → Failure
+failure_is f = record { target = target_is f; code = f.code; message = text_is f.bytes }
+
+abbrev pub lowest_given : OptionsFields → ByteRange → Option LowestSpace
+lowest_given o b = cond o.has_lowest_space (Some (lowest_named o.lowest_space (text_is b))) None
+
+abbrev pub address_given : InformationFields → Option ℕ
+address_given i = cond i.has_lowest_address (Some i.lowest_address) None
+
+abbrev pub options_is : ReplyFields → Options
+options_is f =
+    record {
+      commands = f.options.commands;
+      write_lengths = f.options.write_lengths;
+      highest_space = f.options.highest_space;
+      lowest = lowest_given f.options f.bytes;
+    }
+
+abbrev pub information_is : ReplyFields → Information
+information_is f =
+    record {
+      present = f.information.present;
+      space = f.space;
+      highest_address = f.information.highest_address;
+      flags = f.information.flags;
+      lowest_address = address_given f.information;
+      description = text_is f.bytes;
+    }
+
+unfoldable pub reply_is : ReplyFields → Option ReplyIn
 reply_is f =
-    cond (eqb f.kind 1) (found.Read (form_is f.form) f.space f.address f.bytes.start f.bytes.length)
-    (cond (eqb f.kind 2) (found.ReadFailure (form_is f.form) f.space f.address f.code (text_is f.bytes))
-    (cond (eqb f.kind 3) (found.WriteDone (form_is f.form) f.space f.address)
-    (cond (eqb f.kind 4) (found.WriteFailure (form_is f.form) f.space f.address f.code (text_is f.bytes))
+    cond (eqb f.kind 1) (Some (found.Read (target_is f) (span_is f.bytes)))
+    (cond (eqb f.kind 2) (Some (found.ReadFailure (failure_is f)))
+    (cond (eqb f.kind 3) (Some (found.WriteDone (target_is f)))
+    (cond (eqb f.kind 4) (Some (found.WriteFailure (failure_is f)))
     (cond (eqb f.kind 5)
-    (found.Options f.options.commands f.options.write_lengths f.options.highest_space (lowest_given f.options f.bytes))
+    (Some (found.Options (options_is f)))
     (cond (eqb f.kind 6)
-    (found.Information f.information.present f.space f.information.highest_address f.information.flags (address_given f.information) (text_is f.bytes))
-    (cond (eqb f.kind 7) (found.Locked f.bytes.start f.bytes.length) found.NoReply))))))
+    (Some (found.Information (information_is f)))
+    (cond (eqb f.kind 7) (Some (found.Locked (span_is f.bytes))) None))))))
 
 -- Replies that differ have bytes that differ: no text is not an empty one, and what is missing is not 0.
 abbrev pub ToldApart : Type 0
-ToldApart = (r : ReplyIn) → reply_is (reply_in (reply_fields_bytes (fields_of_reply r))) ≡ r
+ToldApart = (r : Option ReplyIn) → reply_is (reply_in (reply_fields_bytes (fields_of_reply r))) ≡ r

@@ -1,6 +1,9 @@
 // What the tool's writer and readers give, as numbers for a caller in C: the structs, and in specs/ the number of each
 // case and that no blank stands for something. A number that a case does not name is 0, and what may be missing says
 // whether it is given. The code is in `tool_result`.
+//
+// These structs are the C interface, and stay as C has them: a number of a refusal, a kind or a form, and a flag beside
+// its value, are here what an enum or an Option is to the readers.
 #![tactic(auto)]
 
 // A command that was written: the number of W1 or W2 and no length, or 0 and the command's length.
@@ -22,7 +25,7 @@ pub struct Acknowledged {
 
 // Bytes in what was lent: whether there are such bytes, where they start, and how many they are.
 #[repr(C)]
-#[derive(Clone, Copy)]
+#[derive(Clone, Copy, Default)]
 pub struct ByteRange {
     pub given: bool,
     pub start: usize,
@@ -40,7 +43,7 @@ pub struct RejectionFields {
 
 // The options.
 #[repr(C)]
-#[derive(Clone, Copy)]
+#[derive(Clone, Copy, Default)]
 pub struct OptionsFields {
     pub commands: u16,
     pub write_lengths: u8,
@@ -51,7 +54,7 @@ pub struct OptionsFields {
 
 // The information on a space.
 #[repr(C)]
-#[derive(Clone, Copy)]
+#[derive(Clone, Copy, Default)]
 pub struct InformationFields {
     pub highest_address: u32,
     pub lowest_address: u32,
@@ -65,7 +68,7 @@ pub struct InformationFields {
 // or the lock's ID stand. `form` says how the space is named: 0 by byte 6, and 1, 2, 3 by the low two bits of the
 // command.
 #[repr(C)]
-#[derive(Clone, Copy)]
+#[derive(Clone, Copy, Default)]
 pub struct ReplyFields {
     pub kind: u32,
     pub address: u32,

@@ -1,2 +1,0 @@
-pub mod AccessLaws
-pub mod InquiryLaws
