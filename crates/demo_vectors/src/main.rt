@@ -25,7 +25,7 @@ const LONGEST_LINE: usize = 288;
 
 // Reads to the end of the input, as far as there is room for it, and returns how many bytes there are. A read that a
 // signal interrupts is made again; a proved loop has to end, and nothing says that interruptions do: the reads are
-// counted.
+// counted. `read_to_end` wants a Vec, and with it the heap's C functions would be assumed.
 fn read_input(rt: &HostRuntime, input: &mut [u8]) -> io::Result<usize>
     ensures { IfOk result (λ count. count ≤ length input.new) }
 {
