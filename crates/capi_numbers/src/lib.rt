@@ -8,26 +8,22 @@ ghost use Rattle.capi_numbers.specs.Numbers.{kind_written, kind_replied, refusal
 // space's.
 pub const NO_POSITION: u8 = 255;
 
-// The kinds of what comes of a call: refused because of the error `error` of the caller, with the `position` of the
-// refused space; ignored; joined or swallowed, and not answered; refused by the transport with `code`; rejected with
-// `code`; a write that is done, Received OK with `flags` 0x00, and memory changed in `changed_len` bytes from
-// `changed_at` on; Received OK with `flags` 0x80 and a reply of `reply_len` bytes; Update Complete, Received OK with
-// `flags` 0x00.
-pub const REFUSED: u32 = 0;
-
-pub const IGNORED: u32 = 1;
-
-pub const JOINED: u32 = 2;
-
-pub const TRANSPORT_REFUSAL: u32 = 3;
-
-pub const REJECTED: u32 = 4;
-
-pub const WRITTEN: u32 = 5;
-
-pub const REPLIED: u32 = 6;
-
-pub const UPDATE_COMPLETE: u32 = 7;
+// The kinds of what comes of a call, with their numbers: refused because of the error `error` of the caller, with the
+// `position` of the refused space; ignored; joined or swallowed, and not answered; refused by the transport with
+// `code`; rejected with `code`; a write that is done, Received OK with `flags` 0x00, and memory changed in
+// `changed_len` bytes from `changed_at` on; Received OK with `flags` 0x80 and a reply of `reply_len` bytes; Update
+// Complete, Received OK with `flags` 0x00.
+#[derive(Clone, Copy)]
+pub enum Kind {
+    Refused = 0,
+    Ignored = 1,
+    Joined = 2,
+    TransportRefusal = 3,
+    Rejected = 4,
+    Written = 5,
+    Replied = 6,
+    UpdateComplete = 7,
+}
 
 // The numbers of what comes of a call. `frame_count` frames are to be sent. A number that its kind does not name is 0,
 // but for the position, which is `NO_POSITION`.
@@ -51,41 +47,46 @@ pub type ResultBytes = [u8; 20];
 fn byte(n: usize) -> u8
     ensures { result ≡ min n 255 }
 {
-    if n < 255 { n as u8 } else { 255 }
+    n.min(255) as u8
 }
 
 fn four_bytes(n: usize) -> u32
     ensures { result ≡ min n 0xFFFFFFFF }
 {
-    if n < 0xFFFFFFFF { n as u32 } else { 0xFFFFFFFF }
+    n.min(0xFFFFFFFF) as u32
+}
+
+// The numbers of a kind that names no other number.
+fn blank(kind: u32, frame_count: usize) -> CallResult
+    ensures { result ≡ in_bytes (numbers kind 0 0 0 0 0 frame_count) }
+{
+    CallResult {
+        kind,
+        code: 0,
+        error: 0,
+        flags: 0,
+        changed_at: 0,
+        changed_len: 0,
+        reply_len: 0,
+        frame_count: byte(frame_count),
+        position: NO_POSITION,
+    }
 }
 
 // Fills in the numbers.
 fn fill(res: &mut ResultBytes, r: CallResult)
     ensures { res.new ≡ result_bytes r }
 {
-    *res = [
-        (r.kind % 256) as u8,
-        (r.kind / 256 % 256) as u8,
-        (r.kind / 65536 % 256) as u8,
-        (r.kind / 16777216) as u8,
-        (r.code % 256) as u8,
-        (r.code / 256) as u8,
-        r.error,
-        r.flags,
-        (r.changed_at % 256) as u8,
-        (r.changed_at / 256 % 256) as u8,
-        (r.changed_at / 65536 % 256) as u8,
-        (r.changed_at / 16777216) as u8,
-        (r.changed_len % 256) as u8,
-        (r.changed_len / 256 % 256) as u8,
-        (r.changed_len / 65536 % 256) as u8,
-        (r.changed_len / 16777216) as u8,
-        r.reply_len,
-        r.frame_count,
-        r.position,
-        0,
-    ];
+    *res = [0; 20];
+    res[0..4].copy_from_slice(&r.kind.to_le_bytes());
+    res[4..6].copy_from_slice(&r.code.to_le_bytes());
+    res[6] = r.error;
+    res[7] = r.flags;
+    res[8..12].copy_from_slice(&r.changed_at.to_le_bytes());
+    res[12..16].copy_from_slice(&r.changed_len.to_le_bytes());
+    res[16] = r.reply_len;
+    res[17] = r.frame_count;
+    res[18] = r.position;
 }
 
 // A refusal because of an error of the caller.
@@ -95,35 +96,23 @@ pub fn of_refusal(error: u8, position: u8, frame_count: usize, res: &mut ResultB
     fill(
         res,
         CallResult {
-            kind: REFUSED,
-            code: 0,
             error,
-            flags: 0,
-            changed_at: 0,
-            changed_len: 0,
-            reply_len: 0,
-            frame_count: byte(frame_count),
             position,
+            ..blank(Kind::Refused as u32, frame_count)
         },
     )
 }
 
-// Any other kind, with its flags and its code.
+// Any other kind, by its number, with its flags and its code.
 pub fn of_kind(kind: u32, flags: u8, code: u16, frame_count: usize, res: &mut ResultBytes)
     ensures { res.new ≡ result_bytes (in_bytes (numbers kind flags code 0 0 0 frame_count)) }
 {
     fill(
         res,
         CallResult {
-            kind,
             code,
-            error: 0,
             flags,
-            changed_at: 0,
-            changed_len: 0,
-            reply_len: 0,
-            frame_count: byte(frame_count),
-            position: NO_POSITION,
+            ..blank(kind, frame_count)
         },
     )
 }
@@ -135,15 +124,9 @@ pub fn of_write(index: usize, n: usize, frame_count: usize, res: &mut ResultByte
     fill(
         res,
         CallResult {
-            kind: WRITTEN,
-            code: 0,
-            error: 0,
-            flags: 0,
             changed_at: four_bytes(index),
             changed_len: four_bytes(n),
-            reply_len: 0,
-            frame_count: byte(frame_count),
-            position: NO_POSITION,
+            ..blank(Kind::Written as u32, frame_count)
         },
     )
 }
@@ -155,15 +138,9 @@ pub fn of_reply(n: usize, frame_count: usize, res: &mut ResultBytes)
     fill(
         res,
         CallResult {
-            kind: REPLIED,
-            code: 0,
-            error: 0,
             flags: 0x80,
-            changed_at: 0,
-            changed_len: 0,
             reply_len: byte(n),
-            frame_count: byte(frame_count),
-            position: NO_POSITION,
+            ..blank(Kind::Replied as u32, frame_count)
         },
     )
 }

@@ -7,7 +7,7 @@ ghost use Rattle.node_spec.specs.TickCall.{tick_answer};
 ghost use Rattle.capi_result.specs.Result.{position_number, error_numbers, answer_numbers, handled_numbers, frame_numbers};
 
 use call_error::CallError;
-use capi_numbers::ResultBytes;
+use capi_numbers::{Kind, ResultBytes};
 use node_spec::{FrameAnswer, Handled};
 use reply_answer::Answer;
 
@@ -33,13 +33,13 @@ fn of_answer(answer: Answer, frame_count: usize, res: &mut ResultBytes)
 {
     match answer {
         Answer::Rejected(code) => {
-            return capi_numbers::of_kind(capi_numbers::REJECTED, 0, code, frame_count, res);
+            return capi_numbers::of_kind(Kind::Rejected as u32, 0, code, frame_count, res);
         }
         Answer::Written(index, n) => {
             return capi_numbers::of_write(index, n, frame_count, res);
         }
         Answer::UpdateComplete => {
-            return capi_numbers::of_kind(capi_numbers::UPDATE_COMPLETE, 0x00, 0, frame_count, res);
+            return capi_numbers::of_kind(Kind::UpdateComplete as u32, 0x00, 0, frame_count, res);
         }
         Answer::Replied(n) => {
             return capi_numbers::of_reply(n, frame_count, res);
@@ -70,19 +70,13 @@ pub fn of_frame(answer: FrameAnswer, frame_count: usize, res: &mut ResultBytes)
             return of_error(error, frame_count, res);
         }
         FrameAnswer::Ignored => {
-            return capi_numbers::of_kind(capi_numbers::IGNORED, 0, 0, frame_count, res);
+            return capi_numbers::of_kind(Kind::Ignored as u32, 0, 0, frame_count, res);
         }
         FrameAnswer::Nothing => {
-            return capi_numbers::of_kind(capi_numbers::JOINED, 0, 0, frame_count, res);
+            return capi_numbers::of_kind(Kind::Joined as u32, 0, 0, frame_count, res);
         }
         FrameAnswer::TransportRefusal(code) => {
-            return capi_numbers::of_kind(
-                capi_numbers::TRANSPORT_REFUSAL,
-                0,
-                code,
-                frame_count,
-                res,
-            );
+            return capi_numbers::of_kind(Kind::TransportRefusal as u32, 0, code, frame_count, res);
         }
         FrameAnswer::Answered(done) => {
             return of_answer(done, frame_count, res);
@@ -95,7 +89,7 @@ pub fn of_tick(passed: bool, res: &mut ResultBytes)
     ensures { res.new ≡ result_bytes (in_bytes (frame_numbers (tick_answer passed) 0)) }
 {
     if passed {
-        return capi_numbers::of_kind(capi_numbers::JOINED, 0, 0, 0, res);
+        return capi_numbers::of_kind(Kind::Joined as u32, 0, 0, 0, res);
     }
     capi_numbers::of_refusal(7, capi_numbers::NO_POSITION, 0, res)
 }
