@@ -10,32 +10,37 @@ use std::{fmt, io};
 // The reply buffer is filled with this before each call, so that a byte past the reply that changed is seen.
 const FILL: u8 = 0xEE;
 
-// How the board of a datagram is set up: how many of the demonstration board's spaces it describes, and whether its
-// lock is held before.
+// The lock memory of a board whose lock nobody holds, and of one whose lock is held.
+const FREE: [u8; 6] = [0; 6];
+
+const HELD: [u8; 6] = [0x05, 0x01, 0x01, 0x01, 0x22, 0x00];
+
+// How the board of a datagram is set up: how many of the demonstration board's spaces it describes, and its lock memory
+// before.
 #[derive(Clone, Copy)]
 pub struct Setup {
-    pub count: u8,
-    pub held: bool,
+    count: u8,
+    lock: [u8; 6],
 }
 
 impl Setup {
+    // The demonstration board as it is.
+    pub fn whole() -> Setup {
+        Setup {
+            count: 4,
+            lock: FREE,
+        }
+    }
+
     // Changed by the settings of a line.
     pub fn set(&mut self, settings: &[u8]) {
         for setting in settings {
             match *setting {
-                b'L' => self.held = true,
-                b'U' => self.held = false,
+                b'L' => self.lock = HELD,
+                b'U' => self.lock = FREE,
                 b'\n' => {}
                 digit => self.count = digit_value(digit),
             }
-        }
-    }
-
-    fn lock(&self) -> [u8; 6] {
-        if self.held {
-            [0x05, 0x01, 0x01, 0x01, 0x22, 0x00]
-        } else {
-            [0; 6]
         }
     }
 }
@@ -125,7 +130,7 @@ fn handle(
 pub fn run(rt: &impl io::Print, datagram: &[u8], setup: Setup) -> io::Result<()> {
     let mut memory = demo_board::memory_bytes();
     let mut registers = exec_registers::new_registers();
-    exec_registers::put_lock(&mut registers, setup.lock());
+    exec_registers::put_lock(&mut registers, setup.lock);
     let mut reply = [FILL; 80];
     let handled = handle(
         datagram,

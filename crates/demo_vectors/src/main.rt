@@ -59,10 +59,7 @@ fn run_line(rt: &HostRuntime, text: &[u8], setup: &mut Setup) -> io::Result<()> 
 fn main(rt: HostRuntime) -> io::Result<()> {
     let mut input = [0; LONGEST_INPUT];
     let count = read_input(&rt, &mut input)?;
-    let mut setup = Setup {
-        count: 4,
-        held: false,
-    };
+    let mut setup = Setup::whole();
     for text in input[..count].split_inclusive(|byte| *byte == b'\n') {
         run_line(&rt, text, &mut setup)?;
     }
