@@ -6,7 +6,7 @@ use mathlib.Core.List.{List}
 use native.Mathlib.Omega.{arith}
 use Rattle.exec_store.specs.Storing.{OnlyWithin}
 use Rattle.exec_spec.specs.Access.{Changes}
-use Rattle.reply_answer.specs.Answers.{SmallAnswer}
+use Rattle.reply_answer.specs.Answers.{code_of, SmallAnswer}
 use Rattle.reply_answer.specs.declared.Answer.{Answer}
 use Rattle.reply_answer.specs.declared.Answer.TheVariants as answer
 use Rattle.node_spec.specs.DatagramCall.{SmallHandled, HandledChanges}
@@ -30,7 +30,7 @@ has_room kind error position flags code index n reply frames a b c d =
     rw (i, j, k, l)
 
 answer-room : (a : Answer) (frames : ℕ) → SmallAnswer a → frames ≤ 10 → in_bytes (answer_numbers a frames) ≡ answer_numbers a frames
-answer-room (answer.Rejected code) frames s h = has_room 4 0 no_position 0 code 0 0 0 frames (omega arith) (omega arith) (omega arith) h
+answer-room (answer.Rejected rejection) frames s h = has_room 4 0 no_position 0 (code_of rejection) 0 0 0 frames (omega arith) (omega arith) (omega arith) h
 answer-room (answer.Written index n) frames s h = has_room 5 0 no_position 0 0 index n 0 frames (omega (arith, s.0)) (omega (arith, s.1)) (omega arith) h
 answer-room answer.UpdateComplete frames s h = has_room 7 0 no_position 0 0 0 0 0 frames (omega arith) (omega arith) (omega arith) h
 answer-room (answer.Replied n) frames s h = has_room 6 0 no_position 0x80 0 0 0 n frames (omega arith) (omega arith) s h
@@ -54,7 +54,7 @@ module _ (old new : List ℕ) where
   none-changed e = rw e (record { size = refl; before = refl; behind = refl })
 
   answer-within : (a : Answer) (frames : ℕ) → Changes a old new → OnlyWithin (answer_numbers a frames).changed_at (answer_numbers a frames).changed_len old new
-  answer-within (answer.Rejected code) frames e = none-changed e
+  answer-within (answer.Rejected rejection) frames e = none-changed e
   answer-within (answer.Written index n) frames e = e
   answer-within answer.UpdateComplete frames e = none-changed e
   answer-within (answer.Replied n) frames e = none-changed e

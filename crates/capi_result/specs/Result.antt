@@ -2,6 +2,7 @@
 use Rattle.std.specs.Prelude.{ℕ, Option, Some, None}
 use Rattle.call_error.specs.CallErrors.{refusal_of}
 use Rattle.call_error.specs.declared.CallError.{CallError}
+use Rattle.reply_answer.specs.Answers.{code_of}
 use Rattle.reply_answer.specs.declared.Answer.{Answer}
 use Rattle.reply_answer.specs.declared.Answer.TheVariants as answer
 use Rattle.node_spec.specs.declared.Handled.{Handled}
@@ -23,7 +24,7 @@ error_numbers error frames = refusal_numbers (refusal_of error).number (position
 -- Rejected with its code; Received OK 0x00 to a write of n bytes from an index of memory on; Received OK 0x80 and a
 -- reply of n bytes; Received OK 0x00 to Update Complete.
 abbrev pub answer_numbers : Answer → ℕ → CallResult
-answer_numbers (answer.Rejected code) frames = numbers kind_rejected 0 code 0 0 0 frames
+answer_numbers (answer.Rejected rejection) frames = numbers kind_rejected 0 (code_of rejection) 0 0 0 frames
 answer_numbers (answer.Written index n) frames = numbers kind_written 0x00 0 index n 0 frames
 answer_numbers (answer.Replied n) frames = numbers kind_replied 0x80 0 0 0 n frames
 answer_numbers answer.UpdateComplete frames = numbers kind_update_complete 0x00 0 0 0 0 frames

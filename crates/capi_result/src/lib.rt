@@ -32,7 +32,8 @@ fn of_answer(answer: Answer, frame_count: usize, res: &mut ResultBytes)
     ensures { res.new ≡ result_bytes (in_bytes (answer_numbers answer frame_count)) }
 {
     match answer {
-        Answer::Rejected(code) => {
+        Answer::Rejected(rejection) => {
+            let code = reply_answer::code_of(rejection);
             return capi_numbers::of_kind(Kind::Rejected as u32, 0, code, frame_count, res);
         }
         Answer::Written(index, n) => {

@@ -1,10 +1,11 @@
 -- Laws of the decoding of a datagram.
 -- Assumes nothing.
 use Prim.Native.Nat.{ℕ, ◌-◌, ◌%◌, ◌≤◌, ◌<◌}
-use mathlib.Core.Path.{◌≡◌, refl, sym, ap, ◌∙◌}
+use mathlib.Core.Path.{◌≡◌, sym, ap, ◌∙◌}
 use mathlib.Core.Bool.{Bool, true, false, not, ◌&&◌, ◌||◌}
 use mathlib.Core.List.{List}
-use native.Mathlib.Nat.{add-zero}
+use Rattle.std.specs.Prelude.{Ok, Err}
+use Rattle.reply_answer.specs.declared.Rejection.{Rejection}
 use native.Mathlib.Omega.{arith}
 use lib.Dec.{leb, ltb, eqb}
 use lib.ListN.{length, get_or, drop, length-drop}
@@ -12,14 +13,15 @@ use lib.Seq.{get_or-drop}
 use borrow.Author.Tests.{eq-eqb, ne_eqb, lt-ltb, le-ltb, le-leb, leb-true, eqb-true}
 use Rattle.buffer.proofs.Choice.{cond-elim, cond_map, and_left, and_right}
 use Rattle.cmd_fields.specs.Commands.{Request, read, write, write_masked, options, information, reserve, update_complete, pairs_of, within, kind_of_command, form_in, head_length, space_of, address_of, rest_of}
-use Rattle.cmd_decode.specs.Decoding.{Reading, rejected, request, or_wrong, count_of, decode_read, decode_write, decode_masked, decode_kind, decode, request_of, reading_of, of_fixed_length}
+use Rattle.cmd_decode.specs.Decoding.{Reading, rejected, request, or_wrong, count_of, decode_read, decode_write, decode_masked, decode_kind, decode, request_of, reading_of, of_fixed_length, HeadOf}
 use Rattle.cmd_limits.specs.Limits.{count_in, count_fits, bytes_fit, pairs_fit}
 use Rattle.cmd_fields.specs.declared.Form.{Form}
 use Rattle.cmd_fields.specs.declared.Form.TheVariants.{NoSpace}
 use Rattle.cmd_fields.specs.declared.Kind.{Kind}
 use Rattle.cmd_fields.specs.declared.Kind.TheVariants.{Read, Write, WriteMasked, Options, Information, Lock, UpdateComplete, Unknown}
 use Rattle.cmd_decode.specs.declared.Command.{Command}
-use Rattle.cmd_decode.specs.declared.Decoded.TheVariants.{Rejected, Accepted}
+use Rattle.cmd_decode.specs.declared.Head.{Head}
+use Rattle.reply_answer.specs.declared.Rejection.TheVariants.{InvalidArguments, UnknownDatagramType}
 use Rattle.cmd_fields.proofs.Laws.{rest-is, pairs-length}
 
 -- The command of a lock is one of those from 0x80 on, which name no space.
@@ -54,79 +56,98 @@ pub rest-lock : (d : List ℕ) → 0x80 ≤ get_or d 1 0 → rest_of d ≡ drop 
 unfolding rest_of
 rest-lock d h = rw (le-leb 0x80 (get_or d 1 0) h)
 
--- ---- reads, writes, masked writes, by their form and the length of their head
+-- how many bytes remain
+pub remains : (d : List ℕ) {f : Form} {head : ℕ} → f ≡ form_in d → head ≡ head_length f → length d - head ≡ length (rest_of d)
+remains d p q = rw (rest-is d, length-drop, ← p, ← q)
 
-module _ (d : List ℕ) {f : Form} {head : ℕ} (p : f ≡ form_in d) (q : head ≡ head_length f) where
-  -- how many bytes remain
-  abbrev n : ℕ
-  n = length d - head
+-- ---- reads, writes, masked writes: none of them has nothing behind its head
 
-  size : n ≡ length (rest_of d)
-  size = rw (rest-is d, length-drop, ← p, ← q)
-
-  pub read_length : (n ≡ 1 → ⊥) → rejected 0x1080 ≡ decode_read d
+module _ (d : List ℕ) (z : length (rest_of d) ≡ 0) where
+  pub read-none : rejected InvalidArguments ≡ decode_read d
   unfolding decode_read
-  read_length e = rw (← size, ne_eqb n 1 e)
+  read-none = rw z
 
-  module _ (e : n ≡ 1) {count : ℕ} (k : count ≡ count_in (get_or d head 0)) {fits : Bool} (t : fits ≡ count_fits count) where
+  pub write-none : rejected InvalidArguments ≡ decode_write d
+  unfolding decode_write
+  write-none = rw z
+
+  pub masked-none : rejected InvalidArguments ≡ decode_masked d
+  unfolding decode_masked
+  masked-none = rw z
+
+-- ---- reads, writes, masked writes, by their head
+
+module _ (d : List ℕ) (h : Head) (p : HeadOf h d) where
+  pub read-length : eqb h.remaining 1 ≡ false → rejected InvalidArguments ≡ decode_read d
+  unfolding decode_read
+  read-length e = rw (← p.3, e)
+
+  -- the one byte behind the head is the last
+  pub not-empty : eqb h.remaining 1 ≡ true → 1 ≤ length d
+  not-empty e =
+      let l = eqb-true h.remaining 1 e in
+      let r = p.3 ∙ ap length (rest-is d) ∙ length-drop _ d in
+      omega arith
+
+  last : eqb h.remaining 1 ≡ true → get_or d (length d - 1) 0 ≡ get_or (rest_of d) 0 0
+  last e =
+      let l = eqb-true h.remaining 1 e in
+      let r = p.3 ∙ ap length (rest-is d) ∙ length-drop _ d in
+      rw (rest-is d, get_or-drop) (ap (λ i. get_or d i 0) (omega arith))
+
+  module _ (e : eqb h.remaining 1 ≡ true) {count : ℕ} (k : count ≡ count_in (get_or d (length d - 1) 0)) {fits : Bool} (t : fits ≡ count_fits count) where
     counted : count ≡ count_of d
-    counted = k ∙ ap count_in (let first : get_or d head 0 ≡ get_or (rest_of d) 0 0 = rw (rest-is d, ← p, ← q, get_or-drop, add-zero) in first)
+    counted = k ∙ ap count_in (last e)
 
-    pub read_count : fits ≡ false → rejected 0x1080 ≡ decode_read d
+    pub read-count : fits ≡ false → rejected InvalidArguments ≡ decode_read d
     unfolding decode_read
-    read_count w = rw (← size, eq-eqb n 1 e, ← counted, ← t, w)
+    read-count w = rw (← p.3, e, ← counted, ← t, w)
 
-    pub read_right : fits ≡ true → request f (read (space_of (form_in d) d) (address_of d) count) ≡ decode_read d
+    pub read-right : fits ≡ true → request h.form (read h.space h.address count) ≡ decode_read d
     unfolding decode_read
-    read_right w = rw (← p, ← size, eq-eqb n 1 e, ← counted, ← t, w)
+    read-right w = rw (p.0, p.1, p.2, ← p.3, e, ← counted, ← t, w)
 
-  module _ {fits : Bool} (t : fits ≡ bytes_fit n) where
-    pub write-length : fits ≡ false → rejected 0x1080 ≡ decode_write d
+  module _ {fits : Bool} (t : fits ≡ bytes_fit h.remaining) where
+    pub write-length : fits ≡ false → rejected InvalidArguments ≡ decode_write d
     unfolding decode_write
-    write-length w = rw (← size, ← t, w)
+    write-length w = rw (← p.3, ← t, w)
 
-    pub write-right : fits ≡ true → request f (write (space_of (form_in d) d) (address_of d) (rest_of d)) ≡ decode_write d
+    pub write-right : fits ≡ true → request h.form (write h.space h.address (rest_of d)) ≡ decode_write d
     unfolding decode_write
-    write-right w = rw (← p, ← size, ← t, w)
+    write-right w = rw (p.0, p.1, p.2, ← p.3, ← t, w)
 
-  pub write-none : n ≡ 0 → rejected 0x1080 ≡ decode_write d
-  write-none e = write-length (ap bytes_fit (sym e)) refl
-
-  module _ {fits : Bool} (t : fits ≡ pairs_fit n) where
-    pub masked-length : fits ≡ false → rejected 0x1080 ≡ decode_masked d
+  module _ {fits : Bool} (t : fits ≡ pairs_fit h.remaining) where
+    pub masked-length : fits ≡ false → rejected InvalidArguments ≡ decode_masked d
     unfolding decode_masked
-    masked-length w = rw (← size, ← t, w)
+    masked-length w = rw (← p.3, ← t, w)
 
-    pub masked-right : fits ≡ true → request f (write_masked (space_of (form_in d) d) (address_of d) (pairs_of (rest_of d))) ≡ decode_masked d
+    pub masked-right : fits ≡ true → request h.form (write_masked h.space h.address (pairs_of (rest_of d))) ≡ decode_masked d
     unfolding decode_masked
-    masked-right w = rw (← p, ← size, ← t, w)
-
-  pub masked-none : n ≡ 0 → rejected 0x1080 ≡ decode_masked d
-  masked-none e = masked-length (ap pairs_fit (sym e)) refl
+    masked-right w = rw (p.0, p.1, p.2, ← p.3, ← t, w)
 
 -- a command of a fixed length
 pub fixed_reads : (n : ℕ) (d : List ℕ) (c : Command) → reading_of (of_fixed_length n d c) d ≡ or_wrong (eqb (length d) n) (request NoSpace (request_of c (rest_of d)))
-fixed_reads n d c = cond_map (λ x. reading_of x d) (eqb (length d) n) (Accepted NoSpace c) (Rejected 0x1080)
+fixed_reads n d c = cond_map (λ x. reading_of x d) (eqb (length d) n) (Ok (NoSpace, c)) (Err InvalidArguments)
 
 -- ---- the whole
 
 module _ (d : List ℕ) where
-  pub decode-empty : length d ≡ 0 → rejected 0x1080 ≡ decode d
+  pub decode-empty : length d ≡ 0 → rejected InvalidArguments ≡ decode d
   unfolding decode
   decode-empty e = rw (eq-eqb (length d) 0 e)
 
   module _ (z : length d ≡ 0 → ⊥) where
-    pub decode-long : 72 < length d → rejected 0x1080 ≡ decode d
+    pub decode-long : 72 < length d → rejected InvalidArguments ≡ decode d
     unfolding decode
     decode-long l = rw (ne_eqb (length d) 0 z, lt-ltb 72 (length d) l)
 
     module _ (s : length d ≤ 72) where
-      pub decode-other : (get_or d 0 0 ≡ 0x20 → ⊥) → rejected 0x1042 ≡ decode d
+      pub decode-other : (get_or d 0 0 ≡ 0x20 → ⊥) → rejected UnknownDatagramType ≡ decode d
       unfolding decode
       decode-other t = rw (ne_eqb (length d) 0 z, le-ltb 72 (length d) s, ne_eqb (get_or d 0 0) 0x20 t)
 
       module _ (t : get_or d 0 0 ≡ 0x20) where
-        pub decode-bare : length d ≡ 1 → rejected 0x1080 ≡ decode d
+        pub decode-bare : length d ≡ 1 → rejected InvalidArguments ≡ decode d
         unfolding decode
         decode-bare o = rw (ne_eqb (length d) 0 z, le-ltb 72 (length d) s, eq-eqb (get_or d 0 0) 0x20 t, eq-eqb (length d) 1 o)
 
@@ -146,16 +167,16 @@ Allowed (reserve id) = length id ≡ 6
 Allowed update_complete = Unit {0}
 
 abbrev pub AllowedIn : Reading → Type 0
-AllowedIn (rejected code) = Unit {0}
+AllowedIn (rejected rejection) = Unit {0}
 AllowedIn (request f q) = Allowed q
 
 -- what holds of every rejection, and of every kind of command, holds of a datagram as it is read
-pub each_reading : (P : Reading → Type 0) (d : List ℕ) → ((code : ℕ) → P (rejected code)) → ((k : Kind) → P (decode_kind k d)) → P (decode d)
+pub each_reading : (P : Reading → Type 0) (d : List ℕ) → ((rejection : Rejection) → P (rejected rejection)) → ((k : Kind) → P (decode_kind k d)) → P (decode d)
 unfolding decode
 each_reading P d r f =
-    cond-elim P (eqb (length d) 0 || ltb 72 (length d)) {a = rejected 0x1080} (λ _. r 0x1080)
-    (λ _. cond-elim P (not (eqb (get_or d 0 0) 0x20)) {a = rejected 0x1042} (λ _. r 0x1042)
-    (λ _. cond-elim P (eqb (length d) 1) {a = rejected 0x1080} {b = decode_kind (kind_of_command (get_or d 1 0)) d} (λ _. r 0x1080)
+    cond-elim P (eqb (length d) 0 || ltb 72 (length d)) {a = rejected InvalidArguments} (λ _. r InvalidArguments)
+    (λ _. cond-elim P (not (eqb (get_or d 0 0) 0x20)) {a = rejected UnknownDatagramType} (λ _. r UnknownDatagramType)
+    (λ _. cond-elim P (eqb (length d) 1) {a = rejected InvalidArguments} {b = decode_kind (kind_of_command (get_or d 1 0)) d} (λ _. r InvalidArguments)
     (λ _. f (kind_of_command (get_or d 1 0)))))
 
 or_wrong-allowed : (t : Bool) (f : Form) (q : Request) → (t ≡ true → Allowed q) → AllowedIn (or_wrong t (request f q))

@@ -1,18 +1,12 @@
 // A datagram read as a request, apart from any board.
 #![tactic(auto)]
 
-ghost use Rattle.std.specs.Prelude.{◌≡◌, get_or};
-ghost use Rattle.cmd_fields.specs.Commands.{kind_of_command};
-ghost use Rattle.cmd_decode.specs.Decoding.{decode, reading_of, decode_kind, decode_read, decode_write, decode_masked, of_fixed_length};
+ghost use Rattle.std.specs.Prelude.{◌≡◌, true, false, get_or, length, MatchResult};
+ghost use Rattle.cmd_fields.specs.Commands.{kind_of_command, rest_of};
+ghost use Rattle.cmd_decode.specs.Decoding.{decode, reading_of, decode_kind, decode_read, decode_write, decode_masked, of_fixed_length, HeadOf};
 
 use cmd_fields::{Form, Kind};
-
-// The codes of Rejected that are given here: document 01, "Sent as Rejected".
-const INVALID_ARGUMENTS: u16 = 0x1080;
-
-const UNKNOWN_COMMAND: u16 = 0x1041;
-
-const UNKNOWN_DATAGRAM_TYPE: u16 = 0x1042;
+use reply_answer::Rejection;
 
 // Byte 0 of every datagram of this protocol.
 const MEMORY_CONFIGURATION: u8 = 0x20;
@@ -22,7 +16,7 @@ const LONGEST_DATAGRAM: usize = 72;
 
 // A command with its numbers. The bytes to write, the pairs and the lock's ID stay in the datagram: they are its
 // remaining bytes.
-#[derive(Drop)]
+#[derive(Clone, Copy)]
 pub enum Command {
     Read { space: u8, address: u32, count: u8 },
     Write { space: u8, address: u32 },
@@ -33,105 +27,110 @@ pub enum Command {
     UpdateComplete,
 }
 
-// What a datagram is read as. A rejection has the code that is sent.
-#[derive(Drop)]
-pub enum Decoded {
-    Rejected(u16),
-    Accepted(Form, Command),
+// What a read, a write and a masked write begin with, and how many bytes remain behind it.
+#[derive(Clone, Copy)]
+struct Head {
+    form: Form,
+    space: u8,
+    address: u32,
+    remaining: usize,
 }
 
-// A read: exactly one count byte. Here and in the next two the length is tested before the view is asked: a datagram
-// that is longer than its head has every byte that the view reads, and no test for a missing one is left.
-fn decode_read(datagram: &[u8]) -> Decoded
-    ensures { reading_of result datagram.now ≡ decode_read datagram.now }
+// What every length, every number of pairs and every count must be, or the datagram is rejected.
+fn check(right: bool) -> Result<(), Rejection>
+    ensures { MatchResult result (λ _. right ≡ true) (λ e. (e ≡ Rejection.InvalidArguments) × (right ≡ false)) }
+{
+    if right {
+        Ok(())
+    } else {
+        Err(Rejection::InvalidArguments)
+    }
+}
+
+// The head of a read, a write or a masked write, behind which at least one byte remains. The length is tested before
+// the view is asked: a datagram that is longer than its head has every byte that the view reads, and no test for a
+// missing one is left.
+fn head_of(datagram: &[u8]) -> Result<Head, Rejection>
+    ensures { MatchResult result (λ h. HeadOf h datagram.now) (λ e. (e ≡ Rejection.InvalidArguments) × (length (rest_of datagram.now) ≡ 0)) }
 {
     let form = cmd_fields::form_in(datagram);
-    let head = cmd_fields::head_length(form);
-    let length = datagram.len();
-    if length <= head {
-        return Decoded::Rejected(INVALID_ARGUMENTS);
-    }
-    if 1 < length - head {
-        return Decoded::Rejected(INVALID_ARGUMENTS);
-    }
-    let count = cmd_limits::count_in(datagram[head]);
-    if cmd_limits::count_fits(count) {
-        let target = cmd_view::target_of(datagram);
-        let command = Command::Read {
-            space: target.space,
-            address: target.address,
-            count: count,
-        };
-        return Decoded::Accepted(form, command);
-    }
-    Decoded::Rejected(INVALID_ARGUMENTS)
+    let length = cmd_fields::head_length(form);
+    check(length < datagram.len())?;
+    let target = cmd_view::target_of(datagram);
+    Ok(Head {
+        form,
+        space: target.space,
+        address: target.address,
+        remaining: datagram.len() - length,
+    })
+}
+
+// A read: exactly one count byte, which is then the last.
+fn decode_read(datagram: &[u8]) -> Result<(Form, Command), Rejection>
+    ensures { reading_of result datagram.now ≡ decode_read datagram.now }
+{
+    let head = head_of(datagram)?;
+    check(head.remaining == 1)?;
+    let count = cmd_limits::count_in(datagram[datagram.len() - 1]);
+    check(cmd_limits::count_fits(count))?;
+    Ok((
+        head.form,
+        Command::Read {
+            space: head.space,
+            address: head.address,
+            count,
+        },
+    ))
 }
 
 // A write: its bytes are what remains.
-fn decode_write(datagram: &[u8]) -> Decoded
+fn decode_write(datagram: &[u8]) -> Result<(Form, Command), Rejection>
     ensures { reading_of result datagram.now ≡ decode_write datagram.now }
 {
-    let form = cmd_fields::form_in(datagram);
-    let head = cmd_fields::head_length(form);
-    let length = datagram.len();
-    if length <= head {
-        return Decoded::Rejected(INVALID_ARGUMENTS);
-    }
-    if cmd_limits::bytes_fit(length - head) {
-        let target = cmd_view::target_of(datagram);
-        let command = Command::Write {
-            space: target.space,
-            address: target.address,
-        };
-        return Decoded::Accepted(form, command);
-    }
-    Decoded::Rejected(INVALID_ARGUMENTS)
+    let head = head_of(datagram)?;
+    check(cmd_limits::bytes_fit(head.remaining))?;
+    Ok((
+        head.form,
+        Command::Write {
+            space: head.space,
+            address: head.address,
+        },
+    ))
 }
 
 // A masked write: its pairs are what remains.
-fn decode_masked(datagram: &[u8]) -> Decoded
+fn decode_masked(datagram: &[u8]) -> Result<(Form, Command), Rejection>
     ensures { reading_of result datagram.now ≡ decode_masked datagram.now }
 {
-    let form = cmd_fields::form_in(datagram);
-    let head = cmd_fields::head_length(form);
-    let length = datagram.len();
-    if length <= head {
-        return Decoded::Rejected(INVALID_ARGUMENTS);
-    }
-    if cmd_limits::pairs_fit(length - head) {
-        let target = cmd_view::target_of(datagram);
-        let command = Command::WriteMasked {
-            space: target.space,
-            address: target.address,
-        };
-        return Decoded::Accepted(form, command);
-    }
-    Decoded::Rejected(INVALID_ARGUMENTS)
+    let head = head_of(datagram)?;
+    check(cmd_limits::pairs_fit(head.remaining))?;
+    Ok((
+        head.form,
+        Command::WriteMasked {
+            space: head.space,
+            address: head.address,
+        },
+    ))
 }
 
 // A command of a fixed length.
-fn of_length(datagram: &[u8], length: usize, command: Command) -> Decoded
+fn of_length(datagram: &[u8], length: usize, command: Command) -> Result<(Form, Command), Rejection>
     ensures { result ≡ of_fixed_length length datagram.now command }
 {
-    if datagram.len() != length {
-        return Decoded::Rejected(INVALID_ARGUMENTS);
-    }
-    Decoded::Accepted(Form::NoSpace, command)
+    check(datagram.len() == length)?;
+    Ok((Form::NoSpace, command))
 }
 
 // Space information: three bytes, the last the space's number.
-fn decode_information(datagram: &[u8]) -> Decoded
+fn decode_information(datagram: &[u8]) -> Result<(Form, Command), Rejection>
     ensures { result ≡ of_fixed_length 3 datagram.now (Command.Information (get_or datagram.now 2 0)) }
 {
-    if datagram.len() != 3 {
-        return Decoded::Rejected(INVALID_ARGUMENTS);
-    }
-    let space = datagram[2];
-    Decoded::Accepted(Form::NoSpace, Command::Information { space: space })
+    check(datagram.len() == 3)?;
+    Ok((Form::NoSpace, Command::Information { space: datagram[2] }))
 }
 
 // A datagram by the kind of its command.
-fn decode_kind(datagram: &[u8]) -> Decoded
+fn decode_kind(datagram: &[u8]) -> Result<(Form, Command), Rejection>
     ensures { reading_of result datagram.now ≡ decode_kind (kind_of_command (get_or datagram.now 1 0)) datagram.now }
 {
     match cmd_fields::kind_of(cmd_fields::command_in(datagram)) {
@@ -142,26 +141,20 @@ fn decode_kind(datagram: &[u8]) -> Decoded
         Kind::Information => decode_information(datagram),
         Kind::Lock => of_length(datagram, 8, Command::Lock),
         Kind::UpdateComplete => of_length(datagram, 2, Command::UpdateComplete),
-        Kind::Unknown => Decoded::Rejected(UNKNOWN_COMMAND),
+        Kind::Unknown => Err(Rejection::UnknownCommand),
     }
 }
 
 // Reads a datagram that was handed over whole.
-pub fn decode(datagram: &[u8]) -> Decoded
+pub fn decode(datagram: &[u8]) -> Result<(Form, Command), Rejection>
     ensures { reading_of result datagram.now ≡ decode datagram.now }
 {
     let length = datagram.len();
-    if length == 0 {
-        return Decoded::Rejected(INVALID_ARGUMENTS);
-    }
-    if LONGEST_DATAGRAM < length {
-        return Decoded::Rejected(INVALID_ARGUMENTS);
-    }
+    check(0 < length)?;
+    check(length <= LONGEST_DATAGRAM)?;
     if datagram[0] != MEMORY_CONFIGURATION {
-        return Decoded::Rejected(UNKNOWN_DATAGRAM_TYPE);
+        return Err(Rejection::UnknownDatagramType);
     }
-    if length == 1 {
-        return Decoded::Rejected(INVALID_ARGUMENTS);
-    }
+    check(1 < length)?;
     decode_kind(datagram)
 }

@@ -67,8 +67,8 @@ fn write_answer<W: fmt::Write>(
     reply: &[u8],
 ) -> fmt::Result {
     let rest = match answer {
-        Answer::Rejected(code) => {
-            write!(f, "Rejected {code:04X}")?;
+        Answer::Rejected(rejection) => {
+            write!(f, "Rejected {:04X}", reply_answer::code_of(rejection))?;
             reply
         }
         Answer::Written(_, _) | Answer::UpdateComplete => {

@@ -5,7 +5,6 @@ ghost use Rattle.exec_spec.specs.Performing.{AllAnnounced, AllLeave};
 ghost use Rattle.exec_spec.specs.Handling.{handle, Performs, HandleBounds};
 ghost use Rattle.exec_spec.specs.LentBoard.{board_of, contents_before, contents_after};
 
-use cmd_decode::Decoded;
 use exec_registers::Registers;
 use reply_answer::Answer;
 
@@ -30,24 +29,19 @@ pub fn handle(
     ensures announced { AllAnnounced }
     ensures leaves { AllLeave }
 {
-    let decoded = cmd_decode::decode(datagram);
-    match decoded {
-        Decoded::Rejected(code) => {
-            return Answer::Rejected(code);
-        }
-        Decoded::Accepted(form, command) => {
-            return perform::perform(
-                alias,
-                write_lengths,
-                spaces,
-                flash,
-                memory,
-                registers,
-                form,
-                command,
-                datagram,
-                out,
-            );
-        }
+    match cmd_decode::decode(datagram) {
+        Err(rejection) => Answer::Rejected(rejection),
+        Ok((form, command)) => perform::perform(
+            alias,
+            write_lengths,
+            spaces,
+            flash,
+            memory,
+            registers,
+            form,
+            command,
+            datagram,
+            out,
+        ),
     }
 }

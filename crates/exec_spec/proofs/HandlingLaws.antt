@@ -94,7 +94,7 @@ request-handled x c d {form} {q} e p =
 
 -- a buffer of 72 bytes takes every such reply whole
 pub whole : (r : Result) (buffer : List ℕ) → Short r → 72 ≤ length buffer → fitted r buffer ≡ r
-whole (datagram_rejected code) buffer s h = refl
+whole (datagram_rejected rejection) buffer s h = refl
 whole (written index n) buffer s h = refl
 whole update_completed buffer s h = refl
 whole (received_ok_reply reply) buffer s h = rw (le-leb (length reply) (length buffer) (omega (arith, s, h)))
@@ -163,7 +163,7 @@ module _ (x : Fixed) (c : Contents) where
   perform-bounds form update_complete = record { changes = refl; inside = λ _. tt }
 
   reading_bounds : (r : Reading) → Bounds x c (answer_reading x c r)
-  reading_bounds (rejected code) = record { changes = refl; inside = λ _. tt }
+  reading_bounds (rejected rejection) = record { changes = refl; inside = λ _. tt }
   reading_bounds (request form q) = perform-bounds form q
 
 pub handle-bounds : HandleBounds

@@ -101,7 +101,7 @@ module _ (x : Fixed) (m : ℕ) (good : description_check x.alias x.spaces (lengt
 
   reading_does : (c : Contents) → Content m c → (r : Reading) → BytesIn r →
       (answer_reading x c r).contents.memory ≡ masked (written_effect x.spaces m (reading_writes r)) c.memory
-  reading_does c k (rejected code) b = sym (keeps m c.memory k.bytes)
+  reading_does c k (rejected rejection) b = sym (keeps m c.memory k.bytes)
   reading_does c k (request form q) b = request-does c k form q b
 
   pub one-effect : (d : List ℕ) → AllBytes d → Effect m (effect_of x.spaces m d)
@@ -186,7 +186,7 @@ module _ (x : Fixed) (c : Contents) where
   request-answered form update_complete t = clash (sym t)
 
   reading_answered : (r : Reading) → accepted_pairs x.spaces (reading_writes r) ≡ true → transport_of (answer_of (answer_reading x c r).result) ≡ ok_flags 0x00
-  reading_answered (rejected code) t = clash (sym t)
+  reading_answered (rejected rejection) t = clash (sym t)
   reading_answered (request form q) t = request-answered form q t
 
   request-only : (form : Form) (q : Request) → is_pairs (request_writes q) ≡ true → transport_of (answer_of (in_bytes (perform x c form q).result)) ≡ ok_flags 0x00 →
@@ -204,7 +204,7 @@ module _ (x : Fixed) (c : Contents) where
 
   reading_only : (r : Reading) → is_pairs (reading_writes r) ≡ true → transport_of (answer_of (answer_reading x c r).result) ≡ ok_flags 0x00 →
       accepted_pairs x.spaces (reading_writes r) ≡ true
-  reading_only (rejected code) w t = w
+  reading_only (rejected rejection) w t = w
   reading_only (request form q) w t = request-only form q w t
 
   answered : (d : List ℕ) → is_accepted_write x.spaces d ≡ true → transport_of (answer_of (handle x c d).result) ≡ ok_flags 0x00

@@ -38,7 +38,7 @@ module _ (x : Fixed) where
   request-same c k form update_complete w = refl
 
   reading_same : (c k : Contents) (r : Reading) → is_pairs (reading_writes r) ≡ true → (answer_reading x c r).result ≡ (answer_reading x k r).result
-  reading_same c k (rejected code) w = refl
+  reading_same c k (rejected rejection) w = refl
   reading_same c k (request form q) w = ap in_bytes (request-same c k form q w)
 
   same-reply : (c k : Contents) (d : List ℕ) → is_write d ≡ true → (handle x c d).result ≡ (handle x k d).result
@@ -56,7 +56,7 @@ module _ (x : Fixed) where
   request-registers c form update_complete w = refl
 
   reading_registers : (c : Contents) (r : Reading) → is_pairs (reading_writes r) ≡ true → (answer_reading x c r).contents.registers ≡ c.registers
-  reading_registers c (rejected code) w = refl
+  reading_registers c (rejected rejection) w = refl
   reading_registers c (request form q) w = request-registers c form q w
 
   same-registers : (c : Contents) (d : List ℕ) → is_write d ≡ true → (handle x c d).contents.registers ≡ c.registers

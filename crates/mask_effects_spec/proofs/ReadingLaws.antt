@@ -30,7 +30,7 @@ BytesOf (reserve id) = Unit {0}
 BytesOf update_complete = Unit {0}
 
 abbrev pub BytesIn : Reading → Type 0
-BytesIn (rejected code) = Unit {0}
+BytesIn (rejected rejection) = Unit {0}
 BytesIn (request form q) = BytesOf q
 
 or_wrong_lem : (t : Bool) (f : Form) (q : Request) → BytesOf q → BytesIn (or_wrong t (request f q))
@@ -71,7 +71,7 @@ request-proper (reserve id) b = tt
 request-proper update_complete b = tt
 
 reading_proper : (r : Reading) → BytesIn r → ProperPairs (reading_writes r)
-reading_proper (rejected code) b = tt
+reading_proper (rejected rejection) b = tt
 reading_proper (request form q) b = request-proper q b
 
 pub written-proper : (d : List ℕ) → AllBytes d → ProperPairs (written_by d)

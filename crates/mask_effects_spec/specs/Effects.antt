@@ -32,7 +32,7 @@ request_writes (reserve id) = no_write
 request_writes update_complete = no_write
 
 abbrev pub reading_writes : Reading → PairsWritten
-reading_writes (rejected code) = no_write
+reading_writes (rejected rejection) = no_write
 reading_writes (request form q) = request_writes q
 
 unfoldable pub written_by : List ℕ → PairsWritten

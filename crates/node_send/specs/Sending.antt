@@ -31,7 +31,7 @@ transport_frames board tool (rejected_code code) = rejected_with board tool code
 
 -- "then the reply datagram's frames": of the answer that has a reply, which is in front of the buffer.
 abbrev pub reply_frames : ℕ → ℕ → Answer → List ℕ → List Frame
-reply_frames board tool (Rejected code) buffer = []
+reply_frames board tool (Rejected rejection) buffer = []
 reply_frames board tool (Written index n) buffer = []
 reply_frames board tool UpdateComplete buffer = []
 reply_frames board tool (Replied n) buffer = cut_frames (take n buffer) tool board
@@ -66,7 +66,7 @@ reply_of (caller_error error) = []
 reply_of ignored_frame = []
 reply_of nothing = []
 reply_of (transport_refusal code) = []
-reply_of (handled (datagram_rejected code)) = []
+reply_of (handled (datagram_rejected rejection)) = []
 reply_of (handled (written index n)) = []
 reply_of (handled update_completed) = []
 reply_of (handled (received_ok_reply reply)) = reply

@@ -11,8 +11,8 @@ fn send_answer(answer: Answer, reply: &[u8], board: u16, tool: u16, frames: &mut
     ensures { Made (answer_frames board tool answer reply.now) result frames.old frames.new }
 {
     match answer {
-        Answer::Rejected(code) => {
-            return tx_transport::rejected(board, tool, code, frames);
+        Answer::Rejected(rejection) => {
+            return tx_transport::rejected(board, tool, reply_answer::code_of(rejection), frames);
         }
         Answer::Written(_, _) => {
             return tx_transport::received_ok(board, tool, 0x00, frames);

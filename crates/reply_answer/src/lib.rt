@@ -2,14 +2,34 @@
 // for it.
 #![tactic(auto)]
 
-ghost use Rattle.reply_answer.specs.Answers.{received_ok_reply, Agrees};
+ghost use Rattle.std.specs.Prelude.{◌≡◌};
+ghost use Rattle.reply_answer.specs.Answers.{code_of, received_ok_reply, Agrees};
 
-// The answer to a datagram: Rejected with a code; Received OK 0x00 to a write, which changed so many bytes of memory
-// from an index on; Received OK 0x00 to Update Complete; or Received OK 0x80 and a reply of that many bytes in the
-// buffer.
+// Why a datagram is rejected: wrong length, odd pairs or bad count; unknown command; byte 0 is not 0x20.
+#[derive(Clone, Copy)]
+pub enum Rejection {
+    InvalidArguments,
+    UnknownCommand,
+    UnknownDatagramType,
+}
+
+// The code that is sent with Rejected: document 01, "Sent as Rejected".
+pub fn code_of(rejection: Rejection) -> u16
+    ensures { result ≡ code_of rejection }
+{
+    match rejection {
+        Rejection::InvalidArguments => 0x1080,
+        Rejection::UnknownCommand => 0x1041,
+        Rejection::UnknownDatagramType => 0x1042,
+    }
+}
+
+// The answer to a datagram: Rejected, with the reason; Received OK 0x00 to a write, which changed so many bytes of
+// memory from an index on; Received OK 0x00 to Update Complete; or Received OK 0x80 and a reply of that many bytes in
+// the buffer.
 #[derive(Clone, Copy)]
 pub enum Answer {
-    Rejected(u16),
+    Rejected(Rejection),
     Written(usize, usize),
     UpdateComplete,
     Replied(usize),

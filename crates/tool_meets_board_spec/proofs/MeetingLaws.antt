@@ -36,7 +36,7 @@ use Rattle.space_reach.specs.Reach.{access}
 use Rattle.space_reach.specs.declared.Access.{Access}
 use Rattle.space_reach.specs.declared.Access.TheVariants.{Fails, Reaches}
 use Rattle.space_reach.proofs.Laws.{reached}
-use Rattle.reply_answer.specs.Answers.{received_ok_reply, transport_of}
+use Rattle.reply_answer.specs.Answers.{code_of, received_ok_reply, transport_of}
 use Rattle.reply_answer.specs.declared.Answer.{Answer}
 use Rattle.reply_answer.specs.declared.Answer.TheVariants as answered
 use Rattle.exec_spec.specs.Access.{bytes_read, read_result, write_result}
@@ -156,7 +156,7 @@ code_read board tool code =
 
 acknowledged : (board tool : ℕ) (a : Answer) → Each (Acknowledges a) (transport_frames board tool (transport_of a))
 unfolding frame_of read_received
-acknowledged board tool (answered.Rejected code) = code_read board tool code
+acknowledged board tool (answered.Rejected rejection) = code_read board tool (code_of rejection)
 acknowledged board tool (answered.Written index n) = ok_read board tool 0x00 (λ f. read_received (content_of f) ≡ Some (received false 0)) refl
 acknowledged board tool answered.UpdateComplete = ok_read board tool 0x00 (λ f. read_received (content_of f) ≡ Some (received false 0)) refl
 acknowledged board tool (answered.Replied n) = ok_read board tool 0x80 (λ f. read_received (content_of f) ≡ Some (received true 0)) refl

@@ -14,6 +14,7 @@ use Rattle.cmd_fields.specs.declared.Form.{Form}
 use Rattle.cmd_fields.specs.declared.Form.TheVariants.{NoSpace, Byte6, Fd, Fe, Ff}
 use Rattle.cmd_limits.specs.Limits.{count_fits, bytes_fit, pairs_fit}
 use Rattle.cmd_decode.specs.Decoding.{Reading, rejected, request, or_wrong, count_of, decode_read, decode_write, decode_masked, decode_kind, decode}
+use Rattle.reply_answer.specs.declared.Rejection.TheVariants.{InvalidArguments, UnknownDatagramType}
 use Rattle.tool_read_spec.proofs.SoundLaws.{within-true}
 
 abbrev pub Named : Form → Request → Type 0
@@ -26,7 +27,7 @@ Named form (reserve id) = Unit {0}
 Named form update_complete = Unit {0}
 
 abbrev pub NamedIn : Reading → Type 0
-NamedIn (rejected code) = Unit {0}
+NamedIn (rejected rejection) = Unit {0}
 NamedIn (request form q) = Named form q
 
 low_names : (d : List ℕ) (low : ℕ) → Names (low_form low) (space_of (low_form low) d)
@@ -39,7 +40,7 @@ names : (d : List ℕ) → get_or d 1 0 < 0x80 → Names (form_in d) (space_of (
 names d h = rw (lt-leb 0x80 (get_or d 1 0) h) (low_names d (get_or d 1 0 % 4))
 
 or_wrong_lem : (t : Bool) (f : Form) (q : Request) → Named f q → NamedIn (or_wrong t (request f q))
-or_wrong_lem t f q n = cond-elim NamedIn t {a = request f q} {b = rejected 0x1080} (λ _. n) (λ _. tt)
+or_wrong_lem t f q n = cond-elim NamedIn t {a = request f q} {b = rejected InvalidArguments} (λ _. n) (λ _. tt)
 
 module _ (d : List ℕ) where
   read_named : get_or d 1 0 < 0x80 → NamedIn (decode_read d)
@@ -69,6 +70,6 @@ module _ (d : List ℕ) where
   pub named : NamedIn (decode d)
   unfolding decode
   named =
-      cond-elim NamedIn (eqb (length d) 0 || ltb 72 (length d)) {a = rejected 0x1080} (λ _. tt)
-      (λ _. cond-elim NamedIn (not (eqb (get_or d 0 0) 0x20)) {a = rejected 0x1042} (λ _. tt)
-      (λ _. cond-elim NamedIn (eqb (length d) 1) {a = rejected 0x1080} {b = decode_kind (kind_of_command (get_or d 1 0)) d} (λ _. tt) (λ _. kind-named)))
+      cond-elim NamedIn (eqb (length d) 0 || ltb 72 (length d)) {a = rejected InvalidArguments} (λ _. tt)
+      (λ _. cond-elim NamedIn (not (eqb (get_or d 0 0) 0x20)) {a = rejected UnknownDatagramType} (λ _. tt)
+      (λ _. cond-elim NamedIn (eqb (length d) 1) {a = rejected InvalidArguments} {b = decode_kind (kind_of_command (get_or d 1 0)) d} (λ _. tt) (λ _. kind-named)))

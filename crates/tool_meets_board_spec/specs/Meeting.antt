@@ -21,7 +21,7 @@ use Rattle.tool_read_ack.specs.Receipt.{received, rejection, read_received, read
 -- Where an answer has a reply, the reader finds in its bytes the very fields that it is given by. The other answers
 -- have none to read.
 abbrev pub ReadBack : Answered Reply → Type 0
-ReadBack (datagram_rejected code) = Unit {0}
+ReadBack (datagram_rejected rejection) = Unit {0}
 ReadBack (written index n) = Unit {0}
 ReadBack update_completed = Unit {0}
 ReadBack (received_ok_reply reply) = reply_found (find_reply (reply_bytes reply)) (reply_bytes reply) ≡ Some reply

@@ -19,6 +19,7 @@ use Rattle.cmd_fields.specs.declared.Kind.TheVariants.{Read, Write, WriteMasked,
 use Rattle.cmd_fields.proofs.Laws.{is_read, is-write, is-masked, not_within, rest-is}
 use Rattle.cmd_fields.proofs.HeadLaws.{head_back}
 use Rattle.cmd_decode.specs.Decoding.{Reading, rejected, request, count_of, decode_read, decode_write, decode_masked, decode_kind, decode}
+use Rattle.reply_answer.specs.declared.Rejection.TheVariants.{InvalidArguments, UnknownDatagramType}
 use Rattle.tool_write_spec.specs.Writing.{form_for, opening, pair_bytes, command_for, in_range, space_in_form, reserved_zero, in_one_form, OneForm, EveryRequest}
 use Rattle.tool_write_spec.proofs.WritingLaws.{by-byte_6, bits_small, bounds, pairs-bounds, bytes_back, form, rest, read_back, NoShorter, none-shorter, all-in_range}
 
@@ -107,7 +108,7 @@ stands c =
 
 -- a datagram is the command of what it is read as
 abbrev Same : List ℕ → Reading → Type 0
-Same d (rejected code) = Unit {0}
+Same d (rejected rejection) = Unit {0}
 Same d (request f q) = d ≡ command_for q
 
 two : (d : List ℕ) → length d ≡ 2 → d ≡ get_or d 0 0 ∷ get_or d 1 0 ∷ []
@@ -159,9 +160,9 @@ unfolding decode in_one_form
 only_one d bytes i =
     let s = and_left (space_in_form (form_in d) (get_or d 6 0)) (reserved_zero (kind_of_command (get_or d 1 0)) (get_or (rest_of d) 0 0)) i in
     let r = and_right (space_in_form (form_in d) (get_or d 6 0)) (reserved_zero (kind_of_command (get_or d 1 0)) (get_or (rest_of d) 0 0)) i in
-    cond-elim (Same d) (eqb (length d) 0 || ltb 72 (length d)) {a = rejected 0x1080} (λ _. tt)
-    (λ _. cond-elim (Same d) (not (eqb (get_or d 0 0) 0x20)) {a = rejected 0x1042} (λ _. tt)
-    (λ z. cond-elim (Same d) (eqb (length d) 1) {a = rejected 0x1080} {b = decode_kind (kind_of_command (get_or d 1 0)) d} (λ _. tt)
+    cond-elim (Same d) (eqb (length d) 0 || ltb 72 (length d)) {a = rejected InvalidArguments} (λ _. tt)
+    (λ _. cond-elim (Same d) (not (eqb (get_or d 0 0) 0x20)) {a = rejected UnknownDatagramType} (λ _. tt)
+    (λ z. cond-elim (Same d) (eqb (length d) 1) {a = rejected InvalidArguments} {b = decode_kind (kind_of_command (get_or d 1 0)) d} (λ _. tt)
     (λ _. kind-only d (eqb-true (get_or d 0 0) 0x20 (not-false (eqb (get_or d 0 0) 0x20) z)) bytes s (kind_of_command (get_or d 1 0)) (stands (get_or d 1 0)) r)))
 
 -- ---- the theorems

@@ -18,6 +18,7 @@ use Rattle.cmd_fields.specs.declared.Kind.TheVariants.{Read, Write, WriteMasked,
 use Rattle.cmd_fields.proofs.Laws.{is_read, is-write, is-masked, is_within, rest-is, pairs-length}
 use Rattle.cmd_fields.proofs.HeadLaws.{Headed, headed, form_back}
 use Rattle.cmd_decode.specs.Decoding.{Reading, rejected, request, or_wrong, count_of, decode_read, decode_write, decode_masked, decode_kind, decode}
+use Rattle.reply_answer.specs.declared.Rejection.TheVariants.{InvalidArguments, UnknownDatagramType}
 use Rattle.cmd_decode.proofs.Laws.{Allowed, AllowedIn, allowed, decode-command}
 use Rattle.tool_write_spec.specs.Writing.{form_for, opening, pair_bytes, command_for, in_range, form_written, AllInRange}
 
@@ -165,7 +166,7 @@ with_address command a content d h r c =
     omega (arith, (said command (space_of (form_in d) d) a content).size, head_least d h)
 
 abbrev pub NoShorter : List ℕ → Reading → Type 0
-NoShorter d (rejected code) = Unit {0}
+NoShorter d (rejected rejection) = Unit {0}
 NoShorter d (request f q) = length (command_for q) ≤ length d
 
 kind-shortest : (d : List ℕ) (k : Kind) → Low (get_or d 1 0) k → NoShorter d (decode_kind k d)
@@ -189,9 +190,9 @@ kind-shortest d Unknown h = tt
 pub none-shorter : (d : List ℕ) → NoShorter d (decode d)
 unfolding decode
 none-shorter d =
-    cond-elim (NoShorter d) (eqb (length d) 0 || ltb 72 (length d)) {a = rejected 0x1080} (λ _. tt)
-    (λ _. cond-elim (NoShorter d) (not (eqb (get_or d 0 0) 0x20)) {a = rejected 0x1042} (λ _. tt)
-    (λ _. cond-elim (NoShorter d) (eqb (length d) 1) {a = rejected 0x1080} {b = decode_kind (kind_of_command (get_or d 1 0)) d} (λ _. tt)
+    cond-elim (NoShorter d) (eqb (length d) 0 || ltb 72 (length d)) {a = rejected InvalidArguments} (λ _. tt)
+    (λ _. cond-elim (NoShorter d) (not (eqb (get_or d 0 0) 0x20)) {a = rejected UnknownDatagramType} (λ _. tt)
+    (λ _. cond-elim (NoShorter d) (eqb (length d) 1) {a = rejected InvalidArguments} {b = decode_kind (kind_of_command (get_or d 1 0)) d} (λ _. tt)
     (λ _. kind-shortest d (kind_of_command (get_or d 1 0)) (low (get_or d 1 0)))))
 
 -- ---- in range

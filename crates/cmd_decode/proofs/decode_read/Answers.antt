@@ -1,20 +1,31 @@
 -- `decode_read` meets its contract: each answer by the law of its case.
 -- Assumes nothing.
 use native.Mathlib.Omega.{arith}
-use Rattle.cmd_decode.proofs.Laws.{read_length, read_count, read_right}
+use Rattle.std.proofs.lemmas.Result.{err_from_is_err_and}
+use Rattle.cmd_decode.proofs.Laws.{read-none, read-length, read-count, read-right, not-empty}
 use Rattle.cmd_decode.proofs.decode_read.Goals as goal
 
-pub returns-then-length-head : goal.returns-then-length-head
-returns-then-length-head c = let o = c in read_length o.args.datagram.now o.form_in-form.ensures o.head_length-head.ensures (λ e. omega arith)
+pub returns-in_err-head : goal.returns-in_err-head
+returns-in_err-head c =
+    let p = err_from_is_err_and c.from_residual.result c.from_residual.ensures.1 in
+    rw (p.1, p.2, c.in_err-head.ensures.0) (read-none _ c.in_err-head.ensures.1)
 
-pub returns-then-length-head-gt1 : goal.returns-then-length-head-gt1
-returns-then-length-head-gt1 c = let o = c in read_length o.args.datagram.now o.form_in-form.ensures o.head_length-head.ensures (λ e. omega arith)
+pub returns-in_err-check : goal.returns-in_err-check
+returns-in_err-check c =
+    let p = err_from_is_err_and c.from_residual-in_err-check.result c.from_residual-in_err-check.ensures.1 in
+    rw (p.1, p.2, c.in_err-check.ensures.0) (read-length _ _ c.in_ok-head.ensures c.in_err-check.ensures.1)
 
-pub returns-then-count_fits : goal.returns-then-count_fits
-returns-then-count_fits c =
-    let o = c in
-    rw (c.target_of-target.ensures.0, c.target_of-target.ensures.1)
-    (read_right o.args.datagram.now o.form_in-form.ensures o.head_length-head.ensures (omega arith) c.count_in-count.ensures c.count_fits.ensures c.if-count_fits.true)
+pub overflow_sub-datagram : goal.overflow_sub-datagram
+overflow_sub-datagram c = not-empty _ _ c.in_ok-head.ensures c.in_ok-check.ensures
+
+pub bounds-datagram-datagram : goal.bounds-datagram-datagram
+bounds-datagram-datagram c = let l = not-empty _ _ c.in_ok-head.ensures c.in_ok-check.ensures in omega arith
+
+pub returns-in_err-check-2 : goal.returns-in_err-check-2
+returns-in_err-check-2 c =
+    let p = err_from_is_err_and c.from_residual-in_err-check-2.result c.from_residual-in_err-check-2.ensures.1 in
+    rw (p.1, p.2, c.in_err-check-2.ensures.0)
+    (read-count _ _ c.in_ok-head.ensures c.in_ok-check.ensures c.count_in-count.ensures c.count_fits.ensures c.in_err-check-2.ensures.1)
 
 pub returns : goal.returns
-returns c = let o = c in read_count o.args.datagram.now o.form_in-form.ensures o.head_length-head.ensures (omega arith) c.count_in-count.ensures c.count_fits.ensures c.if-count_fits.false
+returns c = read-right _ _ c.in_ok-head.ensures c.in_ok-check.ensures c.count_in-count.ensures c.count_fits.ensures c.in_ok-check-2.ensures

@@ -1,17 +1,18 @@
 -- `decode_write` meets its contract: each answer by the law of its case.
 -- Assumes nothing.
-use native.Mathlib.Omega.{arith}
+use Rattle.std.proofs.lemmas.Result.{err_from_is_err_and}
 use Rattle.cmd_decode.proofs.Laws.{write-none, write-length, write-right}
 use Rattle.cmd_decode.proofs.decode_write.Goals as goal
 
-pub returns-then-length-head : goal.returns-then-length-head
-returns-then-length-head c = let o = c in write-none o.args.datagram.now o.form_in-form.ensures o.head_length-head.ensures (omega arith)
+pub returns-in_err-head : goal.returns-in_err-head
+returns-in_err-head c =
+    let p = err_from_is_err_and c.from_residual.result c.from_residual.ensures.1 in
+    rw (p.1, p.2, c.in_err-head.ensures.0) (write-none _ c.in_err-head.ensures.1)
 
-pub returns-then-bytes_fit : goal.returns-then-bytes_fit
-returns-then-bytes_fit c =
-    let o = c in
-    rw (c.target_of-target.ensures.0, c.target_of-target.ensures.1)
-    (write-right o.args.datagram.now o.form_in-form.ensures o.head_length-head.ensures c.bytes_fit.ensures c.if-bytes_fit.true)
+pub returns-in_err-check : goal.returns-in_err-check
+returns-in_err-check c =
+    let p = err_from_is_err_and c.from_residual-in_err-check.result c.from_residual-in_err-check.ensures.1 in
+    rw (p.1, p.2, c.in_err-check.ensures.0) (write-length _ _ c.in_ok-head.ensures c.bytes_fit.ensures c.in_err-check.ensures.1)
 
 pub returns : goal.returns
-returns c = let o = c in write-length o.args.datagram.now o.form_in-form.ensures o.head_length-head.ensures c.bytes_fit.ensures c.if-bytes_fit.false
+returns c = write-right _ _ c.in_ok-head.ensures c.bytes_fit.ensures c.in_ok-check.ensures

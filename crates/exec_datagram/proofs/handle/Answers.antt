@@ -8,34 +8,34 @@ use Rattle.exec_spec.specs.LentBoard.{contents_in}
 use Rattle.exec_spec.proofs.HandlingLaws.{request-handled, handle-bounds, announced, leaves}
 use Rattle.exec_datagram.proofs.handle.Goals as goal
 
-pub returns-in-Rejected-clause-performs : goal.returns-in-Rejected-clause-performs
+pub returns-in-Err-clause-performs : goal.returns-in-Err-clause-performs
 unfolding handle
-returns-in-Rejected-clause-performs c =
-    rw (← c.decode-decoded.ensures, c.in-Rejected.is)
+returns-in-Err-clause-performs c =
+    rw (← c.decode-decoded.ensures, c.in-Err.is)
     (record { answer = record { answer = refl; buffer = refl }; contents = refl; short = tt })
 
-pub returns-in-Rejected-clause-bounds : goal.returns-in-Rejected-clause-bounds
-returns-in-Rejected-clause-bounds c = handle-bounds
+pub returns-in-Err-clause-bounds : goal.returns-in-Err-clause-bounds
+returns-in-Err-clause-bounds c = handle-bounds
 
-pub returns-in-Rejected-clause-announced : goal.returns-in-Rejected-clause-announced
-returns-in-Rejected-clause-announced c = announced
+pub returns-in-Err-clause-announced : goal.returns-in-Err-clause-announced
+returns-in-Err-clause-announced c = announced
 
-pub returns-in-Rejected-clause-leaves : goal.returns-in-Rejected-clause-leaves
-returns-in-Rejected-clause-leaves c = leaves
+pub returns-in-Err-clause-leaves : goal.returns-in-Err-clause-leaves
+returns-in-Err-clause-leaves c = leaves
 
-pub returns-in-Accepted-clause-performs : goal.returns-in-Accepted-clause-performs
-returns-in-Accepted-clause-performs c =
+pub returns-in-Ok-clause-performs : goal.returns-in-Ok-clause-performs
+returns-in-Ok-clause-performs c =
     let a = c.args in
     let x = fixed a.alias a.write_lengths (spaces_in a.spaces.now) a.flash.now in
     let d = a.datagram.now in
-    let e = sym c.decode-decoded.ensures ∙ ap (λ r. reading_of r d) c.in-Accepted.is in
+    let e = sym c.decode-decoded.ensures ∙ ap (λ r. reading_of r d) c.in-Ok.is in
     request-handled x (contents_in a.memory.now a.registers.now) d e c.perform.ensures
 
-pub returns-in-Accepted-clause-bounds : goal.returns-in-Accepted-clause-bounds
-returns-in-Accepted-clause-bounds c = handle-bounds
+pub returns-in-Ok-clause-bounds : goal.returns-in-Ok-clause-bounds
+returns-in-Ok-clause-bounds c = handle-bounds
 
-pub returns-in-Accepted-clause-announced : goal.returns-in-Accepted-clause-announced
-returns-in-Accepted-clause-announced c = announced
+pub returns-in-Ok-clause-announced : goal.returns-in-Ok-clause-announced
+returns-in-Ok-clause-announced c = announced
 
-pub returns-in-Accepted-clause-leaves : goal.returns-in-Accepted-clause-leaves
-returns-in-Accepted-clause-leaves c = leaves
+pub returns-in-Ok-clause-leaves : goal.returns-in-Ok-clause-leaves
+returns-in-Ok-clause-leaves c = leaves
