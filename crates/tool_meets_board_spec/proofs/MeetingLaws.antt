@@ -156,7 +156,7 @@ code_read board tool code =
 
 acknowledged : (board tool : ℕ) (a : Answer) → Each (Acknowledges a) (transport_frames board tool (transport_of a))
 unfolding frame_of read_received
-acknowledged board tool (answered.Rejected rejection) = code_read board tool (code_of rejection)
+acknowledged board tool (answered.Rejected reason) = code_read board tool (code_of reason)
 acknowledged board tool (answered.Written index n) = ok_read board tool 0x00 (λ f. read_received (content_of f) ≡ Some (received false 0)) refl
 acknowledged board tool answered.UpdateComplete = ok_read board tool 0x00 (λ f. read_received (content_of f) ≡ Some (received false 0)) refl
 acknowledged board tool (answered.Replied n) = ok_read board tool 0x80 (λ f. read_received (content_of f) ≡ Some (received true 0)) refl

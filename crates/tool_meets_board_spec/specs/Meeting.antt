@@ -7,7 +7,7 @@ use Rattle.cmd_fields.specs.Commands.{Request}
 use Rattle.cmd_fields.specs.declared.Form.{Form}
 use Rattle.cmd_decode.specs.Decoding.{request, decode}
 use Rattle.call_error.specs.CallErrors.{description_check}
-use Rattle.reply_answer.specs.Answers.{Answered, datagram_rejected, written, update_completed, received_ok_reply, rejected_code, transport_of}
+use Rattle.reply_answer.specs.Answers.{code_of, Answered, datagram_rejected, written, update_completed, received_ok_reply, rejected_code, transport_of}
 use Rattle.reply_answer.specs.declared.Answer.{Answer}
 use Rattle.reply_answer.specs.declared.Answer.TheVariants as answered
 use Rattle.exec_spec.specs.Performing.{Fixed, Contents, perform}
@@ -43,7 +43,7 @@ content_of f = drop 2 (take f.len f.bytes)
 
 -- A reply is pending if there is one, no timeout is given, and no byte stands behind a code.
 abbrev pub Acknowledges : Answer → Frame → Type 0
-Acknowledges (answered.Rejected code) f = read_rejection (content_of f) ≡ Some (rejection code (span 2 0))
+Acknowledges (answered.Rejected reason) f = read_rejection (content_of f) ≡ Some (rejection (code_of reason) (span 2 0))
 Acknowledges (answered.Written index n) f = read_received (content_of f) ≡ Some (received false 0)
 Acknowledges answered.UpdateComplete f = read_received (content_of f) ≡ Some (received false 0)
 Acknowledges (answered.Replied n) f = read_received (content_of f) ≡ Some (received true 0)

@@ -11,7 +11,7 @@ use Rattle.exec_datagram.proofs.handle.Goals as goal
 pub returns-in-Err-clause-performs : goal.returns-in-Err-clause-performs
 unfolding handle
 returns-in-Err-clause-performs c =
-    rw (← c.decode-decoded.ensures, c.in-Err.is)
+    rw (← c.decode.ensures, c.in-Err.is)
     (record { answer = record { answer = refl; buffer = refl }; contents = refl; short = tt })
 
 pub returns-in-Err-clause-bounds : goal.returns-in-Err-clause-bounds
@@ -28,7 +28,7 @@ returns-in-Ok-clause-performs c =
     let a = c.args in
     let x = fixed a.alias a.write_lengths (spaces_in a.spaces.now) a.flash.now in
     let d = a.datagram.now in
-    let e = sym c.decode-decoded.ensures ∙ ap (λ r. reading_of r d) c.in-Ok.is in
+    let e = sym c.decode.ensures ∙ ap (λ r. reading_of r d) c.in-Ok.is in
     request-handled x (contents_in a.memory.now a.registers.now) d e c.perform.ensures
 
 pub returns-in-Ok-clause-bounds : goal.returns-in-Ok-clause-bounds
