@@ -11,15 +11,9 @@ use exec_registers::Registers;
 use gridconnect_input::Carry;
 use std::io;
 
-// Whether the program goes on, and the beginning of a line that the next block goes on with.
-#[derive(Drop)]
-struct Turn {
-    more: bool,
-    carry: Carry,
-}
-
 // A block of the input: its lines are answered, as many at a time as `out` has room for, and each text is written.
-// Nothing more is answered where a text could not be written.
+// Nothing more is answered where a text could not be written. Returns the beginning of a line that the next block goes
+// on with.
 fn answer_block(
     rt: &HostRuntime,
     spaces: &[u8],
@@ -31,7 +25,7 @@ fn answer_block(
     block: &[u8],
     begun: Carry,
     out: &mut [u8],
-) -> io::Result<Turn>
+) -> io::Result<Carry>
     requires { 290 ≤ length out.old }
 {
     let mut carry = begun;
@@ -55,10 +49,10 @@ fn answer_block(
         at = done.at;
         standard::write(rt, buffer::part(out, 0, done.end))?;
     }
-    Ok(Turn { more: true, carry })
+    Ok(carry)
 }
 
-// One read of the input, answered. At its end a last line that lacks its newline is answered, and nothing more comes.
+// One read of the input, answered. At its end a last line that lacks its newline is answered, and nothing goes on.
 fn answer_read(
     rt: &HostRuntime,
     spaces: &[u8],
@@ -70,15 +64,16 @@ fn answer_read(
     begun: Carry,
     input: &mut [u8],
     out: &mut [u8],
-) -> io::Result<Turn>
+) -> io::Result<Option<Carry>>
     requires { 290 ≤ length out.old }
 {
     let n = standard::read(rt, input)?;
     if n > 0 {
         let block = buffer::part(input, 0, n);
-        return answer_block(
+        let carry = answer_block(
             rt, spaces, flash, memory, registers, pool, places, block, begun, out,
-        );
+        )?;
+        return Ok(Some(carry));
     }
     let end = gridconnect_session::answer_end(
         demo_board::alias(),
@@ -93,13 +88,10 @@ fn answer_read(
         out,
     );
     standard::write(rt, buffer::part(out, 0, end))?;
-    Ok(Turn {
-        more: false,
-        carry: begun,
-    })
+    Ok(None)
 }
 
-// A proved loop has to end, and nothing says that the input does: the reads are counted down.
+// A proved loop has to end, and nothing says that the input does: the reads are counted.
 fn main(rt: HostRuntime) -> io::Result<()> {
     let spaces = demo_board::table_bytes();
     let flash = demo_board::flash_bytes();
@@ -110,10 +102,8 @@ fn main(rt: HostRuntime) -> io::Result<()> {
     let mut input = [0u8; 65536];
     let mut out = [0u8; 65536];
     let mut carry = gridconnect_input::start();
-    let mut more = true;
-    let mut reads = u64::MAX;
-    while reads > 0 && more {
-        let turn = answer_read(
+    for _ in 0..u64::MAX {
+        let Some(left) = answer_read(
             &rt,
             &spaces,
             &flash,
@@ -124,10 +114,11 @@ fn main(rt: HostRuntime) -> io::Result<()> {
             carry,
             &mut input,
             &mut out,
-        )?;
-        more = turn.more;
-        carry = turn.carry;
-        reads -= 1;
+        )?
+        else {
+            break;
+        };
+        carry = left;
     }
     Ok(())
 }

@@ -7,10 +7,9 @@ use mathlib.Core.List.{List, [], ◌∷◌, ◌++◌, map, map-append, flatten, 
 use lib.Dec.{eqb, eqb-suc-zero}
 use lib.ListN.{length, take}
 use borrow.Author.Tests.{eqb-true}
-use Rattle.gridconnect_parse.specs.declared.Parsed.{Parsed}
 use Rattle.gridconnect_input.specs.declared.Carry.{Carry}
 use Rattle.gridconnect_input.specs.declared.Next.{Next}
-use Rattle.gridconnect_parse.specs.Parsing.{parse_of}
+use Rattle.gridconnect_parse.specs.Parsing.{Parsed, parse_of}
 use Rattle.gridconnect_input.specs.Input.{completed, unfinished, complete_lines, last_line, end_line, lines_of, no_newline, none_with_newline, joined_lines, Split, cut_off, carry_with, begun_of, read_from, carry_after, read_chunks, carry_after_chunks, last_of, lines_given, AnyCuts, InputEnds}
 use Rattle.buffer.proofs.Choice.{and_left, and_right, by-test}
 use Rattle.gridconnect_input.proofs.CutLaws.{same-cut, cut_twice, parse_same, begun-with, carry_same, parse_carry}

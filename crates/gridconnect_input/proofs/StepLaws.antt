@@ -10,10 +10,10 @@ use lib.Dec.{ltb, eqb}
 use lib.ListN.{length, take, drop, length-drop}
 use lib.Seq.{take_all, take-append-add, take-append_seam, drop-drop, drop-length}
 use borrow.Author.Tests.{ltb-true, ltb-false, eqb-true}
-use Rattle.gridconnect_parse.specs.declared.Parsed.{Parsed}
+use Rattle.std.specs.Prelude.{Some, None}
 use Rattle.gridconnect_input.specs.declared.Carry.{Carry}
 use Rattle.gridconnect_input.specs.declared.Next.{Next}
-use Rattle.gridconnect_parse.specs.Parsing.{parse_of}
+use Rattle.gridconnect_parse.specs.Parsing.{Parsed, parse_of}
 use Rattle.gridconnect_input.specs.Newline.{until_newline}
 use Rattle.gridconnect_input.specs.Input.{completed, unfinished, complete_lines, last_line, carry_with, carry_of, begun_of, read_from, carry_after, line, no_line, next_of, lines_given, parsed_lines, FollowsOn, LineStep}
 use Rattle.buffer.proofs.Choice.{by-test}
@@ -74,21 +74,18 @@ pub nothing_left : (a : List ℕ) → carry_after (carry_with a) [] ≡ carry_wi
 unfolding unfinished
 nothing_left a = after-behind a []
 
-not-both : {A : Type 0} {b : Bool} → b ≡ true → b ≡ false → A
-not-both p q = let z : ◌≡◌ {A = ℕ} 0 1 = cc in absurd (omega arith)
-
 -- a step that completes a line is made of the line and of where it ends
-made_again : (b : Bool) (p : Parsed) (n : ℕ) (w : Carry) (m : ℕ) {next : Next} → next ≡ cond b (line p (carry_with []) n) (no_line w m) → next.complete ≡ true
-    → line next.parsed (carry_of []) next.at ≡ cond b (line p (carry_with []) n) (no_line w m)
+made_again : (b : Bool) (p : Parsed) (n : ℕ) (w : Carry) (m : ℕ) {next : Next} {q : Parsed} → next ≡ cond b (line p (carry_with []) n) (no_line w m) → next.line ≡ Some q
+    → line q (carry_of []) next.at ≡ cond b (line p (carry_with []) n) (no_line w m)
 unfolding unfinished
-made_again true p n w m e q = rw e
-made_again false p n w m e q = not-both q (ap (λ (x : Next). x.complete) e)
+made_again true p n w m {q = q} e f = let s : Some p ≡ Some q = sym (ap (λ (x : Next). x.line) e) ∙ f in let o : p ≡ q = cc in rw (e, o)
+made_again false p n w m {q = q} e f = let s : None ≡ Some q = sym (ap (λ (x : Next). x.line) e) ∙ f in absurd cc
 
-pub line-again : (carry : Carry) (chunk : List ℕ) (from : ℕ) {next : Next} → next ≡ next_of carry chunk from → next.complete ≡ true
-    → line next.parsed (carry_of []) next.at ≡ next_of carry chunk from
+pub line-again : (carry : Carry) (chunk : List ℕ) (from : ℕ) {next : Next} {q : Parsed} → next ≡ next_of carry chunk from → next.line ≡ Some q
+    → line q (carry_of []) next.at ≡ next_of carry chunk from
 unfolding next_of
-line-again carry chunk from e q =
-    made_again (ltb (length (until_newline (drop from chunk))) (length (drop from chunk))) _ _ _ _ e q
+line-again carry chunk from e f =
+    made_again (ltb (length (until_newline (drop from chunk))) (length (drop from chunk))) _ _ _ _ e f
 
 -- behind a carry: a part of a line and its newline, and a part without
 module _ (carry : Carry) (xs : List ℕ) where
@@ -128,7 +125,7 @@ module _ (carry : Carry) (chunk : List ℕ) (from : ℕ) where
         lines = ap (λ (l : List ℕ). read_from carry l) whole ∙ read-line carry rest more ∙ ap (λ (l : List ℕ). p ∷ read_from (carry_with []) l) left;
         left = ap (λ (l : List ℕ). carry_after carry l) whole ∙ after_line carry rest more ∙ ap (λ (l : List ℕ). carry_after (carry_with []) l) left;
         onward = λ _. (omega arith, omega arith);
-        ended = λ e. not-both refl e;
+        ended = λ e. absurd cc;
       }
 
   none : length (drop from chunk) ≤ length (until_newline (drop from chunk)) → LineStep carry chunk from (no_line (carry_with (begun_of carry ++ until_newline (drop from chunk))) (length chunk))
@@ -145,7 +142,7 @@ module _ (carry : Carry) (chunk : List ℕ) (from : ℕ) where
         behind = λ past. behind past (take (length chunk - from) rest) carry (no_line (carry_with begun) (length chunk)) (rw bytes read) (rw bytes after);
         lines = read ∙ sym (ap (λ (l : List ℕ). read_from (carry_with begun) l) none ∙ nothing_read (carry_with begun));
         left = after ∙ sym (ap (λ (l : List ℕ). carry_after (carry_with begun) l) none ∙ nothing_left begun);
-        onward = λ e. not-both e refl;
+        onward = λ e. absurd cc;
         ended = λ _. (read, sym after);
       }
 

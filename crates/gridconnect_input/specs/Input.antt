@@ -1,10 +1,9 @@
 -- An input text as lines, and how it is read in chunks. Document 01, "The demonstration board": each line ends with a
 -- newline, and the last may lack it.
-use Rattle.std.specs.Prelude.{ℕ, ◌+◌, ◌-◌, ◌≤◌, ◌<◌, ◌≡◌, Bool, true, false, cond, not, ◌&&◌, ltb, eqb, length, take, drop, replicate}
+use Rattle.std.specs.Prelude.{ℕ, ◌+◌, ◌-◌, ◌≤◌, ◌<◌, ◌≡◌, Bool, true, false, cond, Option, Some, None, is_some, not, ◌&&◌, ltb, eqb, length, take, drop, replicate}
 use mathlib.Core.List.{List, [], ◌∷◌, ◌++◌, map, flatten}
 use Rattle.gridconnect_input.specs.Newline.{until_newline}
-use Rattle.gridconnect_parse.specs.Parsing.{parse_of, bad}
-use Rattle.gridconnect_parse.specs.declared.Parsed.{Parsed}
+use Rattle.gridconnect_parse.specs.Parsing.{Parsed, parse_of}
 use Rattle.gridconnect_input.specs.declared.Carry.{Carry}
 use Rattle.gridconnect_input.specs.declared.Next.{Next}
 
@@ -93,10 +92,10 @@ carry_after_chunks carry [] = carry
 carry_after_chunks carry (chunk ∷ more) = carry_after_chunks (carry_after carry chunk) more
 
 abbrev pub line : Parsed → Carry → ℕ → Next
-line parsed carry at = record { complete = true; parsed = parsed; carry = carry; at = at }
+line parsed carry at = record { line = Some parsed; carry = carry; at = at }
 
 abbrev pub no_line : Carry → ℕ → Next
-no_line carry at = record { complete = false; parsed = bad; carry = carry; at = at }
+no_line carry at = record { line = None; carry = carry; at = at }
 
 -- The next line of what is left of a chunk.
 unfoldable pub next_of : Carry → List ℕ → ℕ → Next
@@ -112,8 +111,12 @@ unfoldable pub last_of : Carry → Next
 last_of carry = cond (eqb carry.len 0) (no_line (carry_with []) 0) (line (parse_of (begun_of carry)) (carry_with []) 0)
 
 -- The line of a step as a list.
+abbrev pub listed : Option Parsed → List Parsed
+listed None = []
+listed (Some parsed) = parsed ∷ []
+
 abbrev pub lines_given : Next → List Parsed
-lines_given next = cond next.complete (next.parsed ∷ []) []
+lines_given next = listed next.line
 
 -- ---- what a step through a chunk means
 
@@ -133,9 +136,9 @@ pub record LineStep (carry : Carry) (chunk : List ℕ) (from : ℕ) (next : Next
   pub lines : read_from carry (drop from chunk) ≡ lines_given next ++ read_from next.carry (drop next.at chunk)
   pub left : carry_after carry (drop from chunk) ≡ carry_after next.carry (drop next.at chunk)
   -- A line: the step went on within the chunk.
-  pub onward : next.complete ≡ true → (from < next.at) × (next.at ≤ length chunk)
+  pub onward : is_some next.line ≡ true → (from < next.at) × (next.at ≤ length chunk)
   -- No line: none ends in the rest of the chunk, and the carry is the one behind it.
-  pub ended : next.complete ≡ false → (read_from carry (drop from chunk) ≡ []) × (next.carry ≡ carry_after carry (drop from chunk))
+  pub ended : is_some next.line ≡ false → (read_from carry (drop from chunk) ≡ []) × (next.carry ≡ carry_after carry (drop from chunk))
 
 -- How the input is cut into chunks plays no part.
 pub record AnyCuts : Type 0 where

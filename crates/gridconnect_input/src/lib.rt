@@ -21,11 +21,9 @@ pub struct Carry {
 
 // A step through a chunk: the line that it completes, if any, the carry afterwards, and the index up to which the chunk
 // was read.
-#[repr(C)]
 #[derive(Clone, Copy)]
 pub struct Next {
-    pub complete: bool,
-    pub parsed: Parsed,
+    pub line: Option<Parsed>,
     pub carry: Carry,
     pub at: usize,
 }
@@ -42,19 +40,13 @@ pub fn start() -> Carry
     }
 }
 
-fn smaller(a: usize, b: usize) -> usize
-    ensures { (result ≤ a) × (result ≤ b) × (result ≡ min a b) }
-{
-    if a < b { a } else { b }
-}
-
 // The carry with a part of the same line behind it, cut off at 29 bytes.
 pub fn append(carry: Carry, part: &[u8]) -> Carry
     ensures { result ≡ carry_with (begun_of carry ++ part.now) }
 {
     let begun = carry.text;
-    let n = smaller(carry.len as usize, 29);
-    let k = smaller(29 - n, part.len());
+    let n = (carry.len as usize).min(29);
+    let k = (29 - n).min(part.len());
     let mut text = [0u8; 29];
     buffer::put(&mut text, 0, &begun[..n]);
     buffer::put(&mut text, n, &part[..k]);

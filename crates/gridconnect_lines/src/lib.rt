@@ -22,8 +22,8 @@ fn parse_end(carry: Carry, part: &[u8]) -> Parsed
     gridconnect_parse::parse_line(&text[..n])
 }
 
-// Reads the chunk from index `from` on, up to and including the next newline or to the chunk's end. Of a bad or missing
-// line the frame is all zero. An index past the end is like the end.
+// Reads the chunk from index `from` on, up to and including the next newline or to the chunk's end. An index past the
+// end is like the end.
 pub fn next_line(chunk: &[u8], from: usize, carry: Carry) -> Next
     ensures value { result ≡ next_of carry chunk.now from }
     ensures step { LineStep carry chunk.now from result }
@@ -35,15 +35,13 @@ pub fn next_line(chunk: &[u8], from: usize, carry: Carry) -> Next
         let parsed = parse_end(carry, &rest[..n]);
         let nothing_begun = gridconnect_input::start();
         return Next {
-            complete: true,
-            parsed,
+            line: Some(parsed),
             carry: nothing_begun,
             at: from + n + 1,
         };
     }
     Next {
-        complete: false,
-        parsed: gridconnect_parse::bad_line(),
+        line: None,
         carry: gridconnect_input::append(carry, rest),
         at: chunk.len(),
     }
@@ -54,17 +52,13 @@ pub fn last_line(carry: Carry) -> Next
     ensures value { result ≡ last_of carry }
     ensures ends { InputEnds carry result }
 {
-    if carry.len == 0 {
-        return Next {
-            complete: false,
-            parsed: gridconnect_parse::bad_line(),
-            carry: gridconnect_input::start(),
-            at: 0,
-        };
-    }
+    let line = if carry.len == 0 {
+        None
+    } else {
+        Some(parse_end(carry, b""))
+    };
     Next {
-        complete: true,
-        parsed: parse_end(carry, b""),
+        line,
         carry: gridconnect_input::start(),
         at: 0,
     }

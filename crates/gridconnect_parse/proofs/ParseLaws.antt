@@ -10,28 +10,28 @@ use lib.ListN.{length, get_or, drop, length-drop}
 use lib.Seq.{take_at, get_or_at, length-take-le}
 use borrow.Author.Tests.{le-leb, lt-leb, eq-eqb}
 use Rattle.can_frame.specs.Frame.{frame_of}
-use Rattle.hex_print.specs.Digits.{digits_of, hex_digits, all_digits}
+use Rattle.hex_print.specs.Digits.{digits_of, hex_digits, all_digits, number_in}
 use Rattle.hex_print.proofs.DigitLaws.{length_digits}
 use Rattle.hex_print.proofs.PlaceLaws.{all-hex, number-back}
 use Rattle.hex_read.specs.declared.HexBytes.{HexBytes}
-use Rattle.hex_read.specs.declared.Number.{Number}
+use Rattle.std.specs.Prelude.{Some, None}
 use Rattle.hex_read.specs.Reading.{read_of, read_number}
 use Rattle.hex_read.proofs.BackLaws.{all_digits_lem, bytes_back}
-use Rattle.hex_read.proofs.ReadLaws.{number-good, number_is, bytes_good, bytes-are}
+use Rattle.hex_read.proofs.ReadLaws.{chosen, not_chosen, by_digits, by-pairs}
 use Rattle.gridconnect_parse.specs.Form.{formed}
 use Rattle.gridconnect_parse.proofs.FormLaws.{formed-length}
 use Rattle.gridconnect_print.specs.Line.{line_of}
 use Rattle.gridconnect_print.proofs.LineLaws.{line-length}
-use Rattle.gridconnect_parse.specs.Parsing.{header_digits, data_digits, good, bad, parse_of, ReadBack}
+use Rattle.gridconnect_parse.specs.Parsing.{header_digits, data_digits, parse_of, ReadBack}
 
-pub too_long : (s : List ℕ) → 28 < length s → parse_of s ≡ bad
+pub too_long : (s : List ℕ) → 28 < length s → parse_of s ≡ None
 unfolding parse_of formed
 too_long s h = let k : 12 ≤ length s = omega arith in simp (le-leb 12 (length s) k, lt-leb (length s) 28 h)
 
 -- ---- a line by its parts
 
 module _ (s : List ℕ) where
-  pub not-formed : formed s ≡ false → bad ≡ parse_of s
+  pub not-formed : formed s ≡ false → None ≡ parse_of s
   unfolding parse_of
   not-formed e = rw e
 
@@ -48,24 +48,27 @@ module _ (s : List ℕ) where
     even : length (data_digits s) % 2 ≡ 0
     even = let h = formed-length s e in let l = data-length in omega arith
 
-    module _ (u : Number) (eu : u ≡ read_number (header_digits s)) where
-      pub no_header : u.good ≡ false → bad ≡ parse_of s
+    pub no_header : read_number (header_digits s) ≡ None → None ≡ parse_of s
+    unfolding parse_of
+    no_header n =
+        let f : all_digits (header_digits s) ≡ false = not_chosen (all_digits (header_digits s)) _ (sym (by_digits (header_digits s) header-length) ∙ n) in
+        simp (e, f)
+
+    module _ {h : ℕ} (eh : read_number (header_digits s) ≡ Some h) where
+      header-is : (all_digits (header_digits s) ≡ true) × (number_in (header_digits s) ≡ h)
+      header-is = chosen (all_digits (header_digits s)) (sym (by_digits (header_digits s) header-length) ∙ eh)
+
+      pub no_data : read_of (data_digits s) ≡ None → None ≡ parse_of s
       unfolding parse_of
-      no_header g = let f : all_digits (header_digits s) ≡ false = sym (number-good (header_digits s) eu header-length) ∙ g in simp (e, f)
+      no_data n =
+          let d : all_digits (data_digits s) ≡ false = not_chosen (all_digits (data_digits s)) _ (sym (by-pairs (data_digits s) few even) ∙ n) in
+          simp (e, header-is.0, d)
 
-      module _ (g : u.good ≡ true) (v : HexBytes) (ev : v ≡ read_of (data_digits s)) where
-        header-good : all_digits (header_digits s) ≡ true
-        header-good = sym (number-good (header_digits s) eu header-length) ∙ g
-
-        pub no_data : v.good ≡ false → bad ≡ parse_of s
-        unfolding parse_of
-        no_data f = let d : all_digits (data_digits s) ≡ false = sym (bytes_good (data_digits s) ev few even) ∙ f in simp (e, header-good, d)
-
-        pub a_line : v.good ≡ true → good (record { header = u.value; len = v.len; bytes = v.bytes }) ≡ parse_of s
-        unfolding parse_of frame_of
-        a_line f =
-            let d : all_digits (data_digits s) ≡ true = sym (bytes_good (data_digits s) ev few even) ∙ f in
-            simp (e, header-good, d, number_is (header_digits s) eu header-length g, bytes-are (data_digits s) ev few even f)
+      pub a_line : {b : HexBytes} → read_of (data_digits s) ≡ Some b → Some (record { header = h; len = b.len; bytes = b.bytes }) ≡ parse_of s
+      unfolding parse_of frame_of
+      a_line eb =
+          let d = chosen (all_digits (data_digits s)) (sym (by-pairs (data_digits s) few even) ∙ eb) in
+          simp (e, header-is.0, d.0, header-is.1, ← d.1)
 
 -- ---- printed and read back
 

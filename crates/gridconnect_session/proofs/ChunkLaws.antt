@@ -2,8 +2,7 @@
 -- Assumes nothing.
 use Prim.Native.Nat.{ℕ, ◌+◌, ◌≤◌, ◌<◌}
 use mathlib.Core.Path.{◌≡◌, refl, sym, ap, ◌∙◌}
-use mathlib.Core.Bool.{true, false}
-use mathlib.Core.List.{List, [], ◌++◌, append_assoc}
+use mathlib.Core.List.{List, [], ◌∷◌, ◌++◌, append_assoc}
 use native.Mathlib.Omega.{arith}
 use native.Mathlib.Nat.{add-zero}
 use lib.Dec.{ltb, eqb}
@@ -14,8 +13,7 @@ use Rattle.buffer.proofs.Choice.{cond-elim, by-test}
 use Rattle.buffer.proofs.Laws.{put_nil, put_length, take_put, drop-behind}
 use Rattle.rx_place_spec.specs.State.{State}
 use Rattle.exec_spec.specs.Handling.{Fixed, Contents}
-use Rattle.gridconnect_parse.specs.Parsing.{parse_of}
-use Rattle.gridconnect_parse.specs.declared.Parsed.{Parsed}
+use Rattle.gridconnect_parse.specs.Parsing.{Parsed, parse_of}
 use Rattle.gridconnect_input.specs.Newline.{until_newline}
 use Rattle.gridconnect_input.specs.Input.{next_of, read_from, carry_after, last_of, lines_given, line, no_line, begun_of, carry_with, LineStep}
 use Rattle.gridconnect_input.specs.declared.Carry.{Carry}
@@ -26,16 +24,16 @@ use Rattle.gridconnect_session_spec.proofs.SessionLaws.{lines-append, one_line}
 use Rattle.gridconnect_session.specs.Chunks.{ChunkAnswered, at_end}
 
 -- the line of a step: one that is complete is answered, and none is not
-module _ (x : Fixed) (st : State) (c : Contents) (next : Next) (at : ℕ) (out : List ℕ) (room : at + 290 ≤ length out) where
-  pub step_none : next.complete ≡ false → Prints (answer_lines x st c (lines_given next)) at out at out c st
+module _ (x : Fixed) (st : State) (c : Contents) (at : ℕ) (out : List ℕ) (room : at + 290 ≤ length out) where
+  pub step_none : Prints (answer_lines x st c []) at out at out c st
   unfolding answer_lines
-  step_none g = rw g (record { end = sym (add-zero at); few = omega arith; out = sym (put_nil at out); contents = refl; state = refl })
+  step_none = record { end = sym (add-zero at); few = omega arith; out = sym (put_nil at out); contents = refl; state = refl }
 
-  pub step_line : next.complete ≡ true → {r : ℕ} {after : List ℕ} {c' : Contents} {st' : State}
-      → Prints (answer_with_room x st c next.parsed at out) at out r after c' st' → Prints (answer_lines x st c (lines_given next)) at out r after c' st'
-  step_line g {r} {after} {c'} {st'} q =
-      let p : Prints (answer_line x st c next.parsed) at out r after c' st' = rw (le-leb (at + 290) (length out) room) at q in
-      rw (g, one_line x st c next.parsed) p
+  pub step_line : (parsed : Parsed) {r : ℕ} {after : List ℕ} {c' : Contents} {st' : State}
+      → Prints (answer_with_room x st c parsed at out) at out r after c' st' → Prints (answer_lines x st c (parsed ∷ [])) at out r after c' st'
+  step_line parsed {r} {after} {c'} {st'} q =
+      let p : Prints (answer_line x st c parsed) at out r after c' st' = rw (le-leb (at + 290) (length out) room) at q in
+      rw (one_line x st c parsed) p
 
 -- ---- a chunk
 

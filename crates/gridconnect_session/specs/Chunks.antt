@@ -2,7 +2,7 @@
 use Rattle.std.specs.Prelude.{ℕ, ◌≤◌, ◌<◌, ◌≡◌, cond, List, [], length, take, drop}
 use Rattle.rx_place_spec.specs.State.{State}
 use Rattle.exec_spec.specs.Handling.{Fixed, Contents}
-use Rattle.gridconnect_parse.specs.declared.Parsed.{Parsed}
+use Rattle.gridconnect_parse.specs.Parsing.{Parsed}
 use Rattle.gridconnect_frames.specs.Room.{has_room}
 use Rattle.gridconnect_input.specs.Input.{read_from, carry_after, last_of, lines_given}
 use Rattle.gridconnect_input.specs.declared.Carry.{Carry}

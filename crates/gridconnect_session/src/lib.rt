@@ -3,14 +3,15 @@
 
 ghost use Rattle.std.specs.Prelude.{◌≡◌, [], ◌+◌, ◌≤◌, length};
 ghost use Rattle.rx_place_spec.specs.PlaceBytes.{state_before, state_after};
-ghost use Rattle.gridconnect_input.specs.Input.{lines_given};
+ghost use Rattle.gridconnect_input.specs.Input.{listed};
 ghost use Rattle.gridconnect_session_spec.specs.Turn.{Prints};
 ghost use Rattle.gridconnect_session_spec.specs.Session.{answer_lines, AnyChunks};
 ghost use Rattle.gridconnect_session.specs.Chunks.{at_end, ChunkAnswered};
 ghost use Rattle.exec_spec.specs.LentBoard.{board_of, contents_before, contents_after};
 
 use exec_registers::Registers;
-use gridconnect_input::{Carry, Next};
+use gridconnect_input::Carry;
+use gridconnect_parse::Parsed;
 
 mod line;
 
@@ -23,7 +24,7 @@ pub struct Progress {
     pub end: usize,
 }
 
-// A step of the line splitter: the line that it completes is answered.
+// What a step of the line splitter gives: the line that it completes, if any, is answered.
 fn answer_next(
     alias: u16,
     write_lengths: u8,
@@ -33,19 +34,18 @@ fn answer_next(
     registers: &mut Registers,
     pool: &mut [u8; 576],
     places: &mut [u8; 64],
-    next: Next,
+    line: Option<Parsed>,
     out: &mut [u8],
     at: usize,
 ) -> usize
     requires { at + 290 ≤ length out.old }
     ensures { Prints (answer_lines (board_of alias write_lengths spaces flash) (state_before places pool)
-        (contents_before memory registers) (lines_given next)) at out.old result out.new
+        (contents_before memory registers) (listed line)) at out.old result out.new
         (contents_after memory registers) (state_after places pool) }
 {
-    if !next.complete {
+    let Some(parsed) = line else {
         return at;
-    }
-    let parsed = next.parsed;
+    };
     line::answer_line(
         alias,
         write_lengths,
@@ -99,7 +99,7 @@ pub fn answer_chunk(
             registers,
             pool,
             places,
-            next,
+            next.line,
             out,
             end,
         );
@@ -140,7 +140,7 @@ pub fn answer_end(
         registers,
         pool,
         places,
-        last,
+        last.line,
         out,
         0,
     )

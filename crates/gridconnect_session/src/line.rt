@@ -31,10 +31,9 @@ pub fn answer_line(
     if !gridconnect_frames::has_room(at, out.len()) {
         return at;
     }
-    if !parsed.good {
+    let Some(frame) = parsed else {
         return gridconnect_print::print_unknown(out, at);
-    }
-    let frame = parsed.frame;
+    };
     let bytes = frame.bytes;
     let mut reply = [0u8; 72];
     let mut frames = [0u8; 160];

@@ -5,7 +5,7 @@ use mathlib.Core.Path.{◌≡◌, refl, sym, ap, ◌∙◌}
 use mathlib.Core.List.{List, [], ◌∷◌, ◌++◌, append-nil, append_assoc}
 use Rattle.rx_place_spec.specs.State.{State}
 use Rattle.exec_spec.specs.Handling.{Fixed, Contents}
-use Rattle.gridconnect_parse.specs.declared.Parsed.{Parsed}
+use Rattle.gridconnect_parse.specs.Parsing.{Parsed}
 use Rattle.gridconnect_input.specs.Input.{read_from, carry_after, carry_of, read_chunks, carry_after_chunks, last_of, lines_given}
 use Rattle.gridconnect_input.specs.declared.Carry.{Carry}
 use Rattle.gridconnect_input.proofs.ChunkLaws.{any_cuts}

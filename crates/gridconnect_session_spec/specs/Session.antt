@@ -3,8 +3,7 @@ use Rattle.std.specs.Prelude.{ℕ, ◌≡◌}
 use mathlib.Core.List.{List, [], ◌∷◌, ◌++◌, map, flatten}
 use Rattle.rx_place_spec.specs.State.{State}
 use Rattle.exec_spec.specs.Handling.{Fixed, Contents}
-use Rattle.gridconnect_parse.specs.Parsing.{parse_of}
-use Rattle.gridconnect_parse.specs.declared.Parsed.{Parsed}
+use Rattle.gridconnect_parse.specs.Parsing.{Parsed, parse_of}
 use Rattle.gridconnect_input.specs.Input.{lines_of, read_from, carry_after, carry_of, last_of, lines_given}
 use Rattle.gridconnect_input.specs.declared.Carry.{Carry}
 use Rattle.gridconnect_session_spec.specs.Turn.{Turn, turn, answer_line}

@@ -1,6 +1,6 @@
 -- A line answered. Document 01, "The demonstration board": "It prints .. per frame the transport reply, then the reply
 -- datagram's frames"; "Any other line prints `?`."
-use Rattle.std.specs.Prelude.{ℕ, ◌+◌, ◌≤◌, ◌≡◌, cond, List, [], length, replicate}
+use Rattle.std.specs.Prelude.{ℕ, ◌+◌, ◌≤◌, ◌≡◌, cond, Some, None, List, [], length, replicate}
 use Rattle.buffer.specs.Buffer.{put_at}
 use Rattle.can_frame.specs.Frame.{source_of}
 use Rattle.rx_place_spec.specs.State.{State}
@@ -9,7 +9,7 @@ use Rattle.exec_spec.specs.Handling.{Fixed, Contents}
 use Rattle.node_spec.specs.FrameCall.{frame_call}
 use Rattle.node_send.specs.Sending.{sent_for}
 use Rattle.gridconnect_print.specs.Line.{unknown_text}
-use Rattle.gridconnect_parse.specs.declared.Parsed.{Parsed}
+use Rattle.gridconnect_parse.specs.Parsing.{Parsed}
 use Rattle.gridconnect_frames.specs.Room.{has_room}
 use Rattle.gridconnect_frames.specs.Printing.{frames_text}
 
@@ -29,11 +29,10 @@ session_tick = 0
 -- A line that was read: its frame is handled, with a reply buffer of 72 bytes, and the frames that the board sends are
 -- printed, each as a line; "Any other line prints `?`."
 unfoldable pub answer_line : Fixed → State → Contents → Parsed → Turn
-answer_line x st c p =
-    cond p.good
-    (let r = frame_call x (replicate 72 0) session_tick st c (carried p.frame) in
-    turn (frames_text (sent_for x.alias (source_of p.frame.header) r.answer)) r.state r.world)
-    (turn unknown_text st c)
+answer_line x st c None = turn unknown_text st c
+answer_line x st c (Some frame) =
+    let r = frame_call x (replicate 72 0) session_tick st c (carried frame) in
+    turn (frames_text (sent_for x.alias (source_of frame.header) r.answer)) r.state r.world
 
 -- The same where a buffer has room from an index on for the longest answer; where it has none, the line is not
 -- answered.

@@ -1,7 +1,7 @@
 -- What was printed is read back, and what was read is printed again: bytes and their digits, and a number and its eight.
 -- Assumes nothing.
 use Prim.Native.Nat.{ℕ, suc, ◌-◌, ◌/◌, ◌%◌, ◌^◌, ◌≤◌, ◌<◌}
-use mathlib.Core.Path.{◌≡◌, refl, sym, ap, ◌∙◌}
+use mathlib.Core.Path.{◌≡◌, refl, ap, ◌∙◌}
 use mathlib.Core.Bool.{true, ◌&&◌}
 use mathlib.Core.List.{List, [], ◌∷◌}
 use native.Mathlib.Omega.{arith}
@@ -12,12 +12,10 @@ use borrow.Author.Tests.{le-leb, eq-eqb, eqb-true}
 use Rattle.buffer.proofs.Choice.{and_left, and_right}
 use Rattle.hex_digit.specs.Digit.{digit_value}
 use Rattle.hex_digit.proofs.DigitLaws.{digit_small}
-use Rattle.hex_print.specs.Digits.{digits_of, hex_digits, all_digits, number_in}
+use Rattle.hex_print.specs.Digits.{digits_of, hex_digits, all_digits}
 use Rattle.hex_print.proofs.DigitLaws.{length_digits, length-hex}
 use Rattle.hex_print.proofs.PlaceLaws.{all-hex, number-back, again}
-use Rattle.hex_read.specs.declared.HexBytes.{HexBytes}
-use Rattle.hex_read.specs.declared.Number.{Number}
-use Rattle.hex_read.specs.Reading.{bytes_in, paired, some_bytes, no_hex_bytes, read_of, BytesBack, BytesAgain, number, no_number, read_number, NumberBack, NumberAgain}
+use Rattle.hex_read.specs.Reading.{bytes_in, paired, read_of, BytesBack, BytesAgain, read_number, NumberBack, NumberAgain}
 use Rattle.hex_read.proofs.ReadLaws.{chosen}
 
 -- ---- a number
@@ -28,9 +26,10 @@ number-read-back x h = simp (length-hex 8 x, all-hex 8 x, number-back 8 x h)
 
 pub number-again : NumberAgain
 unfolding read_number
-number-again text g =
-    let t = sym (chosen (λ (n : Number). n.good) (eqb (length text) 8 && all_digits text) (number (number_in text)) no_number refl refl) ∙ g in
-    rw t (again 8 text (eqb-true (length text) 8 (and_left (eqb (length text) 8) (all_digits text) t)) (and_right (eqb (length text) 8) (all_digits text) t))
+number-again text x e =
+    let p = chosen (eqb (length text) 8 && all_digits text) e in
+    let t = p.0 in
+    rw (← p.1) (again 8 text (eqb-true (length text) 8 (and_left (eqb (length text) 8) (all_digits text) t)) (and_right (eqb (length text) 8) (all_digits text) t))
 
 -- ---- bytes
 
@@ -65,7 +64,8 @@ digits-again (a ∷ b ∷ more) e h =
 
 pub bytes-again : BytesAgain
 unfolding read_of
-bytes-again text g =
-    let t = sym (chosen (λ (b : HexBytes). b.good) (paired text && all_digits text) (some_bytes (bytes_in text)) no_hex_bytes refl refl) ∙ g in
+bytes-again text read e =
+    let p = chosen (paired text && all_digits text) e in
+    let t = p.0 in
     let even = eqb-true (length text % 2) 0 (and_right (leb (length text) 16) (eqb (length text % 2) 0) (and_left (paired text) (all_digits text) t)) in
-    rw (t, take-append_seam (bytes_in text) (replicate (8 - length (bytes_in text)) 0)) (digits-again text even (and_right (paired text) (all_digits text) t))
+    rw (← p.1, take-append_seam (bytes_in text) (replicate (8 - length (bytes_in text)) 0)) (digits-again text even (and_right (paired text) (all_digits text) t))

@@ -4,48 +4,49 @@ use mathlib.Core.Path.{◌≡◌, refl}
 use mathlib.Core.List.{[], ◌∷◌}
 use Rattle.hex_digit.specs.Digit.{digit_value}
 use Rattle.hex_print.specs.Digits.{all_digits, number_in}
-use Rattle.hex_read.specs.Reading.{bytes_in, read_of, some_bytes, no_hex_bytes, read_number, number, no_number}
+use Rattle.hex_read.specs.Reading.{bytes_in, read_of, some_bytes, read_number}
+use Rattle.std.specs.Prelude.{Some, None}
 
 -- ---- a number: "1A22B09F", "1A22B09", "1A22B09F0", nothing, "1A22B09G"
 
-eight : read_number (49 ∷ 65 ∷ 50 ∷ 50 ∷ 66 ∷ 48 ∷ 57 ∷ 70 ∷ []) ≡ number 0x1A22B09F
+eight : read_number (49 ∷ 65 ∷ 50 ∷ 50 ∷ 66 ∷ 48 ∷ 57 ∷ 70 ∷ []) ≡ Some 0x1A22B09F
 unfolding read_number all_digits number_in digit_value
 eight = refl
 
-seven : read_number (49 ∷ 65 ∷ 50 ∷ 50 ∷ 66 ∷ 48 ∷ 57 ∷ []) ≡ no_number
+seven : read_number (49 ∷ 65 ∷ 50 ∷ 50 ∷ 66 ∷ 48 ∷ 57 ∷ []) ≡ None
 unfolding read_number
 seven = refl
 
-nine : read_number (49 ∷ 65 ∷ 50 ∷ 50 ∷ 66 ∷ 48 ∷ 57 ∷ 70 ∷ 48 ∷ []) ≡ no_number
+nine : read_number (49 ∷ 65 ∷ 50 ∷ 50 ∷ 66 ∷ 48 ∷ 57 ∷ 70 ∷ 48 ∷ []) ≡ None
 unfolding read_number
 nine = refl
 
-nothing : read_number [] ≡ no_number
+nothing : read_number [] ≡ None
 unfolding read_number
 nothing = refl
 
-no_digit : read_number (49 ∷ 65 ∷ 50 ∷ 50 ∷ 66 ∷ 48 ∷ 57 ∷ 71 ∷ []) ≡ no_number
+no_digit : read_number (49 ∷ 65 ∷ 50 ∷ 50 ∷ 66 ∷ 48 ∷ 57 ∷ 71 ∷ []) ≡ None
 unfolding read_number all_digits digit_value
 no_digit = refl
 
 -- ---- bytes: "2A80", nothing, "2", "2A8", and 18 digits
 
-two_bytes : read_of (50 ∷ 65 ∷ 56 ∷ 48 ∷ []) ≡ some_bytes (0x2A ∷ 0x80 ∷ [])
+two_bytes : read_of (50 ∷ 65 ∷ 56 ∷ 48 ∷ []) ≡ Some (some_bytes (0x2A ∷ 0x80 ∷ []))
 unfolding read_of all_digits bytes_in number_in digit_value
 two_bytes = refl
 
-no_bytes : read_of [] ≡ some_bytes []
+no_bytes : read_of [] ≡ Some (some_bytes [])
 unfolding read_of all_digits bytes_in
 no_bytes = refl
 
-one-digit : read_of (50 ∷ []) ≡ no_hex_bytes
+one-digit : read_of (50 ∷ []) ≡ None
 unfolding read_of
 one-digit = refl
 
-three_digits : read_of (50 ∷ 65 ∷ 56 ∷ []) ≡ no_hex_bytes
+three_digits : read_of (50 ∷ 65 ∷ 56 ∷ []) ≡ None
 unfolding read_of
 three_digits = refl
 
-nine_bytes : read_of (48 ∷ 48 ∷ 48 ∷ 48 ∷ 48 ∷ 48 ∷ 48 ∷ 48 ∷ 48 ∷ 48 ∷ 48 ∷ 48 ∷ 48 ∷ 48 ∷ 48 ∷ 48 ∷ 48 ∷ 48 ∷ []) ≡ no_hex_bytes
+nine_bytes : read_of (48 ∷ 48 ∷ 48 ∷ 48 ∷ 48 ∷ 48 ∷ 48 ∷ 48 ∷ 48 ∷ 48 ∷ 48 ∷ 48 ∷ 48 ∷ 48 ∷ 48 ∷ 48 ∷ 48 ∷ 48 ∷ []) ≡ None
 unfolding read_of
 nine_bytes = refl

@@ -14,9 +14,8 @@ use borrow.Author.Tests.{le-leb, lt-leb, leb-true, leb-false, eq-eqb}
 use Rattle.buffer.proofs.Choice.{and_left, and_right, by-test}
 use Rattle.hex_digit.specs.Digit.{digit_value}
 use Rattle.hex_print.specs.Digits.{all_digits, number_in}
-use Rattle.hex_read.specs.declared.HexBytes.{HexBytes}
-use Rattle.hex_read.specs.declared.Number.{Number}
-use Rattle.hex_read.specs.Reading.{bytes_in, some_bytes, no_hex_bytes, read_of, number, no_number, read_number}
+use Rattle.std.specs.Prelude.{Some, None}
+use Rattle.hex_read.specs.Reading.{bytes_in, some_bytes, read_of, read_number}
 
 -- ---- the worst of the values so far
 
@@ -83,30 +82,21 @@ half k (a ∷ []) h = omega arith
 half zero (a ∷ b ∷ more) h = absurd (omega (arith, add-one (suc (length more))))
 half (suc k) (a ∷ b ∷ more) h = suc-le-suc (half k more (omega (arith, add-one (suc (length more)), add-one (length more), add-one k)))
 
--- ---- for callers: of a text of a right length the answer is good where all are digits
+-- ---- for callers: of a text of a right length the answer is there where all are digits
 
-pub chosen : {A : Type 0} (good : A → Bool) (t : Bool) (x y : A) → good x ≡ true → good y ≡ false → good (cond t x y) ≡ t
-chosen good true x y p q = p
-chosen good false x y p q = q
+-- of a value that is chosen by a test: which way the test went, and which value it is
+pub chosen : {A : Type 0} (t : Bool) {x y : A} → cond t (Some x) None ≡ Some y → (t ≡ true) × (x ≡ y)
+chosen true e = (refl, cc)
+chosen false e = absurd cc
 
-module _ (s : List ℕ) {u : Number} (e : u ≡ read_number s) (l : length s ≡ 8) where
-  by_digits : u ≡ cond (all_digits s) (number (number_in s)) no_number
-  unfolding read_number
-  by_digits = e ∙ rw (eq-eqb (length s) 8 l)
+pub not_chosen : {A : Type 0} (t : Bool) (x : A) → cond t (Some x) None ≡ None → t ≡ false
+not_chosen true x e = absurd cc
+not_chosen false x e = refl
 
-  pub number-good : u.good ≡ all_digits s
-  number-good = ap (λ (n : Number). n.good) by_digits ∙ chosen (λ (n : Number). n.good) (all_digits s) (number (number_in s)) no_number refl refl
+pub by_digits : (s : List ℕ) → length s ≡ 8 → read_number s ≡ cond (all_digits s) (Some (number_in s)) None
+unfolding read_number
+by_digits s l = rw (eq-eqb (length s) 8 l)
 
-  pub number_is : u.good ≡ true → u ≡ number (number_in s)
-  number_is g = let t : all_digits s ≡ true = sym number-good ∙ g in by_digits ∙ rw t
-
-module _ (s : List ℕ) {u : HexBytes} (e : u ≡ read_of s) (few : length s ≤ 16) (even : length s % 2 ≡ 0) where
-  by-pairs : u ≡ cond (all_digits s) (some_bytes (bytes_in s)) no_hex_bytes
-  unfolding read_of
-  by-pairs = e ∙ rw (le-leb (length s) 16 few, eq-eqb (length s % 2) 0 even)
-
-  pub bytes_good : u.good ≡ all_digits s
-  bytes_good = ap (λ (b : HexBytes). b.good) by-pairs ∙ chosen (λ (b : HexBytes). b.good) (all_digits s) (some_bytes (bytes_in s)) no_hex_bytes refl refl
-
-  pub bytes-are : u.good ≡ true → u ≡ some_bytes (bytes_in s)
-  bytes-are g = let t : all_digits s ≡ true = sym bytes_good ∙ g in by-pairs ∙ rw t
+pub by-pairs : (s : List ℕ) → length s ≤ 16 → length s % 2 ≡ 0 → read_of s ≡ cond (all_digits s) (Some (some_bytes (bytes_in s))) None
+unfolding read_of
+by-pairs s few even = rw (le-leb (length s) 16 few, eq-eqb (length s % 2) 0 even)

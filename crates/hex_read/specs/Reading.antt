@@ -1,9 +1,8 @@
 -- Document 01, "The demonstration board": "eight header digits, `N`, 0–16 data digits in pairs, .. digits 0–9 and A–F".
 -- What is read from digits.
-use Rattle.std.specs.Prelude.{ℕ, ◌-◌, ◌%◌, ◌^◌, ◌≤◌, ◌<◌, ◌≡◌, Bool, true, false, cond, ◌&&◌, List, [], ◌∷◌, ◌++◌, leb, eqb, length, get_or, take, replicate}
+use Rattle.std.specs.Prelude.{ℕ, ◌-◌, ◌%◌, ◌^◌, ◌≤◌, ◌<◌, ◌≡◌, Bool, cond, Option, Some, None, ◌&&◌, List, [], ◌∷◌, ◌++◌, leb, eqb, length, get_or, take, replicate}
 use Rattle.hex_print.specs.Digits.{digits_of, hex_digits, all_digits, number_in}
 use Rattle.hex_read.specs.declared.HexBytes.{HexBytes}
-use Rattle.hex_read.specs.declared.Number.{Number}
 
 -- ---- bytes
 
@@ -20,40 +19,30 @@ paired text = leb (length text) 16 && eqb (length text % 2) 0
 
 -- At most eight bytes: behind them stand zeros.
 abbrev pub some_bytes : List ℕ → HexBytes
-some_bytes bs = record { good = true; len = length bs; bytes = bs ++ replicate (8 - length bs) 0 }
+some_bytes bs = record { len = length bs; bytes = bs ++ replicate (8 - length bs) 0 }
 
--- What is read from any other text.
-abbrev pub no_hex_bytes : HexBytes
-no_hex_bytes = record { good = false; len = 0; bytes = replicate 8 0 }
-
-unfoldable pub read_of : List ℕ → HexBytes
-read_of text = cond (paired text && all_digits text) (some_bytes (bytes_in text)) no_hex_bytes
+-- Any other text stands for no bytes.
+unfoldable pub read_of : List ℕ → Option HexBytes
+read_of text = cond (paired text && all_digits text) (Some (some_bytes (bytes_in text))) None
 
 -- Bytes that were printed are read back from their digits.
 abbrev pub BytesBack : Type 0
-BytesBack = (bs : List ℕ) → length bs ≤ 8 → ((i : ℕ) → get_or bs i 0 < 256) → read_of (digits_of bs) ≡ some_bytes bs
+BytesBack = (bs : List ℕ) → length bs ≤ 8 → ((i : ℕ) → get_or bs i 0 < 256) → read_of (digits_of bs) ≡ Some (some_bytes bs)
 
 -- Digits that were read as bytes are the ones that are printed for them.
 abbrev pub BytesAgain : Type 0
-BytesAgain = (text : List ℕ) → (read_of text).good ≡ true → digits_of (take (read_of text).len (read_of text).bytes) ≡ text
+BytesAgain = (text : List ℕ) (read : HexBytes) → read_of text ≡ Some read → digits_of (take read.len read.bytes) ≡ text
 
 -- ---- a number
 
-abbrev pub number : ℕ → Number
-number x = record { good = true; value = x }
-
--- What is read from a text that is not eight digits.
-abbrev pub no_number : Number
-no_number = record { good = false; value = 0 }
-
--- "eight header digits"
-unfoldable pub read_number : List ℕ → Number
-read_number text = cond (eqb (length text) 8 && all_digits text) (number (number_in text)) no_number
+-- "eight header digits": any other text stands for no number.
+unfoldable pub read_number : List ℕ → Option ℕ
+read_number text = cond (eqb (length text) 8 && all_digits text) (Some (number_in text)) None
 
 -- C-13: "and read back as it". A number of 32 bits that was printed is read back from its eight digits.
 abbrev pub NumberBack : Type 0
-NumberBack = (x : ℕ) → x < 2 ^ 32 → read_number (hex_digits 8 x) ≡ number x
+NumberBack = (x : ℕ) → x < 2 ^ 32 → read_number (hex_digits 8 x) ≡ Some x
 
 -- Eight digits that were read are the ones that are printed for their number.
 abbrev pub NumberAgain : Type 0
-NumberAgain = (text : List ℕ) → (read_number text).good ≡ true → hex_digits 8 (read_number text).value ≡ text
+NumberAgain = (text : List ℕ) (x : ℕ) → read_number text ≡ Some x → hex_digits 8 x ≡ text

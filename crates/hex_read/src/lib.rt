@@ -3,31 +3,13 @@
 #![tactic(auto)]
 
 ghost use Rattle.std.specs.Prelude.{◌≡◌, ◌+◌, ◌*◌, ◌%◌};
-ghost use Rattle.hex_read.specs.Reading.{read_of, no_hex_bytes, BytesBack, BytesAgain, read_number, NumberBack, NumberAgain};
+ghost use Rattle.hex_read.specs.Reading.{read_of, BytesBack, BytesAgain, read_number, NumberBack, NumberAgain};
 
 // The bytes that some digits stand for: the first `len` of eight.
-#[derive(Drop)]
+#[derive(Clone, Copy)]
 pub struct HexBytes {
-    pub good: bool,
     pub len: u32,
     pub bytes: [u8; 8],
-}
-
-// The number that eight digits stand for.
-#[derive(Drop)]
-pub struct Number {
-    pub good: bool,
-    pub value: u32,
-}
-
-fn no_bytes() -> HexBytes
-    ensures { result ≡ no_hex_bytes }
-{
-    HexBytes {
-        good: false,
-        len: 0,
-        bytes: [0u8; 8],
-    }
 }
 
 // The byte of two values, of each of which the low four bits count.
@@ -38,67 +20,52 @@ fn byte_of(high: u8, low: u8) -> u8
 }
 
 // Reads pairs of digits, at most 16 digits. Whether all are digits is asked once, at the end: `worst` is over 15 where
-// one is not.
-pub fn read_bytes(text: &[u8]) -> HexBytes
+// one is not. The pairs are found by index: `chunks_exact` divides the length.
+pub fn read_bytes(text: &[u8]) -> Option<HexBytes>
     ensures value { result ≡ read_of text.now }
     ensures read_back { BytesBack }
     ensures printed_again { BytesAgain }
 {
     let size = text.len();
-    if 16 < size {
-        return no_bytes();
+    if 16 < size || size & 1 != 0 {
+        return None;
     }
-    if size & 1 != 0 {
-        return no_bytes();
-    }
+    let pairs = size >> 1;
     let mut bytes = [0u8; 8];
     let mut worst: u8 = 0;
-    let mut n: usize = 0;
-    let mut i: usize = 0;
-    while i < size {
-        let high = hex_digit::value_of(text[i]);
-        let low = hex_digit::value_of(text[i + 1]);
+    for n in 0..pairs {
+        let high = hex_digit::value_of(text[n + n]);
+        let low = hex_digit::value_of(text[n + n + 1]);
         worst = worst | high | low;
         bytes[n] = byte_of(high, low);
-        n += 1;
-        i += 2;
     }
     if 15 < worst {
-        return no_bytes();
+        return None;
     }
-    HexBytes {
-        good: true,
-        len: n as u32,
+    Some(HexBytes {
+        len: pairs as u32,
         bytes,
-    }
+    })
 }
 
 // Reads eight digits, most significant first.
-pub fn read_number(text: &[u8]) -> Number
+pub fn read_number(text: &[u8]) -> Option<u32>
     ensures value { result ≡ read_number text.now }
     ensures read_back { NumberBack }
     ensures printed_again { NumberAgain }
 {
     if text.len() != 8 {
-        return Number {
-            good: false,
-            value: 0,
-        };
+        return None;
     }
     let mut value: u32 = 0;
     let mut worst: u8 = 0;
-    let mut i: usize = 0;
-    while i < 8 {
-        let digit = hex_digit::value_of(text[i]);
+    for c in text {
+        let digit = hex_digit::value_of(*c);
         worst = worst | digit;
-        value = (value << 4) + (digit & 15) as u32;
-        i += 1;
+        value = (value << 4) + u32::from(digit & 15);
     }
     if 15 < worst {
-        return Number {
-            good: false,
-            value: 0,
-        };
+        return None;
     }
-    Number { good: true, value }
+    Some(value)
 }

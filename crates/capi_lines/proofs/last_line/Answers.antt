@@ -10,4 +10,4 @@ pub returns : goal.returns
 returns c =
     let e = c.last_line.ensures.value ∙ same-last c.carry_in.ensures in
     let step = c.take_step.ensures in
-    record { given = step.given ∙ ap line_bytes e; carried = step.carried ∙ ap (λ (n : Next). carry_bytes n.carry) e }
+    record { given = step.given ∙ ap (λ (n : Next). line_bytes n.line) e; carried = step.carried ∙ ap (λ (n : Next). carry_bytes n.carry) e }

@@ -34,4 +34,4 @@ module _ (carry : Carry) (part : List ℕ) (n k : ℕ) (t u : List ℕ) (full : 
 pub returns : goal.returns
 returns c =
     let full : length c.args.carry.text ≡ 29 = search rules in
-    appended c.args.carry _ _ _ _ _ full c.smaller-n.ensures.2 c.smaller-k.ensures.2 c.put.ensures c.put-2.ensures
+    appended c.args.carry _ _ _ _ _ full c.min-n.ensures c.min-k.ensures c.put.ensures c.put-2.ensures

@@ -1,33 +1,30 @@
 -- `last_line` meets its contract.
 -- Assumes nothing.
 use mathlib.Core.Path.{◌≡◌}
-use mathlib.Core.Bool.{false}
 use mathlib.Core.List.{[], ◌++◌, append-nil}
 use borrow.Author.Tests.{eq-eqb, ne_eqb}
-use Rattle.gridconnect_parse.specs.declared.Parsed.{Parsed}
 use Rattle.gridconnect_input.specs.declared.Carry.{Carry}
-use Rattle.gridconnect_parse.specs.Parsing.{parse_of, bad}
-use Rattle.gridconnect_input.specs.Input.{unfinished, carry_of, begun_of, line, last_of}
+use Rattle.gridconnect_parse.specs.Parsing.{Parsed, parse_of}
+use Rattle.gridconnect_input.specs.Input.{unfinished, carry_of, begun_of, line, no_line, last_of}
 use Rattle.gridconnect_input.proofs.ChunkLaws.{ends}
+use Rattle.gridconnect_lines.proofs.last_line.Goals.{then-carry-eq0, else-carry-eq0}
 use Rattle.gridconnect_lines.proofs.last_line.Goals as goal
 
-module _ (carry : Carry) (p : Parsed) (s : Carry) (es : s ≡ carry_of []) where
-  no_last : carry.len ≡ 0 → p ≡ bad → record { complete = false; parsed = p; carry = s; at = 0 } ≡ last_of carry
+module _ (carry : Carry) (s : Carry) (es : s ≡ carry_of []) where
+  no_last : carry.len ≡ 0 → no_line s 0 ≡ last_of carry
   unfolding last_of unfinished
-  no_last e ep = rw (eq-eqb carry.len 0 e, es, ep)
+  no_last e = rw (eq-eqb carry.len 0 e, es)
 
-  a-last : (carry.len ≡ 0 → ⊥) → p ≡ parse_of (begun_of carry ++ []) → line p s 0 ≡ last_of carry
+  a-last : (p : Parsed) → (carry.len ≡ 0 → ⊥) → p ≡ parse_of (begun_of carry ++ []) → line p s 0 ≡ last_of carry
   unfolding last_of unfinished
-  a-last e ep = rw (ne_eqb carry.len 0 e, es, ep, append-nil (begun_of carry))
-
-pub returns-then-carry-eq0 : goal.returns-then-carry-eq0
-returns-then-carry-eq0 c =
-    let w = c.args.carry in
-    let e = no_last w _ _ c.start.ensures.carry c.if-carry-eq0.true c.bad_line.ensures in
-    record { value = e; ends = ends w e }
+  a-last p e ep = rw (ne_eqb carry.len 0 e, es, ep, append-nil (begun_of carry))
 
 pub returns : goal.returns
 returns c =
-    let w = c.args.carry in
-    let e = a-last w _ _ c.start-2.ensures.carry c.if-carry-eq0.false c.parse_end.ensures in
-    record { value = e; ends = ends w e }
+    let e : record { line = c.if-carry-eq0.line; carry = c.start.result; at = 0 } ≡ last_of c.args.carry =
+    elim c.if-carry-eq0.branch [
+      | then-carry-eq0 w ↦ rw w.line-is (no_last c.args.carry _ c.start.ensures.carry w.if-carry-eq0.true)
+      | else-carry-eq0 w ↦ rw w.line-is (a-last c.args.carry _ c.start.ensures.carry _ w.if-carry-eq0.false w.parse_end.ensures)
+    ]
+    in
+    record { value = e; ends = ends c.args.carry e }

@@ -2,17 +2,15 @@
 -- Assumes nothing.
 use Prim.Native.Nat.{ℕ, ◌+◌, ◌≤◌, ◌<◌}
 use mathlib.Core.Path.{◌≡◌, sym, ap, ◌∙◌}
-use mathlib.Core.Bool.{false}
 use mathlib.Core.List.{List, [], ◌++◌}
 use native.Mathlib.Omega.{arith}
 use borrow.Author.Tests.{lt-ltb, le-ltb}
 use lib.ListN.{length, take, drop, length-drop}
 use lib.Seq.{take_all}
-use Rattle.gridconnect_parse.specs.declared.Parsed.{Parsed}
 use Rattle.gridconnect_input.specs.declared.Carry.{Carry}
-use Rattle.gridconnect_parse.specs.Parsing.{parse_of, bad}
+use Rattle.gridconnect_parse.specs.Parsing.{Parsed, parse_of}
 use Rattle.gridconnect_input.specs.Newline.{until_newline}
-use Rattle.gridconnect_input.specs.Input.{unfinished, carry_with, carry_of, begun_of, line, next_of}
+use Rattle.gridconnect_input.specs.Input.{unfinished, carry_with, carry_of, begun_of, line, no_line, next_of}
 use Rattle.gridconnect_input.proofs.StepLaws.{take-line, no_newline_lem, step}
 use Rattle.gridconnect_input.proofs.ChunkLaws.{any_cuts}
 use Rattle.gridconnect_lines.proofs.next_line.Goals as goal
@@ -34,15 +32,14 @@ module _ (carry : Carry) (chunk : List ℕ) (from n : ℕ) (rest : List ℕ) (er
       let ep' : p ≡ parse_of (begun_of carry ++ until_newline (drop from chunk)) = ep ∙ ap (λ (r : List ℕ). parse_of (begun_of carry ++ r)) q in
       rw (lt-ltb _ _ k, ep', es, size)
 
-  no_line : (p : Parsed) (s : Carry) → length rest ≤ n → p ≡ bad → s ≡ carry_with (begun_of carry ++ rest)
-      → record { complete = false; parsed = p; carry = s; at = length chunk } ≡ next_of carry chunk from
+  none : (s : Carry) → length rest ≤ n → s ≡ carry_with (begun_of carry ++ rest) → no_line s (length chunk) ≡ next_of carry chunk from
   unfolding next_of
-  no_line p s h ep es =
+  none s h es =
       let l : length rest ≡ length (drop from chunk) = ap length same_rest in
       let k : length (drop from chunk) ≤ length (until_newline (drop from chunk)) = omega (arith, size) in
       let q : rest ≡ until_newline (drop from chunk) = same_rest ∙ sym (no_newline_lem (drop from chunk) k) in
       let es' : s ≡ carry_with (begun_of carry ++ until_newline (drop from chunk)) = es ∙ ap (λ (r : List ℕ). carry_with (begun_of carry ++ r)) q in
-      rw (le-ltb _ _ k, ep, es')
+      rw (le-ltb _ _ k, es')
 
 pub returns-then-n-rest : goal.returns-then-n-rest
 returns-then-n-rest c =
@@ -53,5 +50,5 @@ returns-then-n-rest c =
 pub returns : goal.returns
 returns c =
     let a = c.args in
-    let e = no_line a.carry a.chunk.now a.from _ _ c.part-rest.ensures c.line_size-n.ensures _ _ c.if-n-rest.false c.bad_line.ensures c.append.ensures in
+    let e = none a.carry a.chunk.now a.from _ _ c.part-rest.ensures c.line_size-n.ensures _ c.if-n-rest.false c.append.ensures in
     record { value = e; step = step a.carry a.chunk.now a.from e; cuts = any_cuts }

@@ -1,6 +1,5 @@
 -- `answer_next` meets its contract.
 -- Assumes nothing.
-use borrow.Author.Tests.{not-true, not-false}
 use Rattle.space_table.specs.Table.{spaces_in}
 use Rattle.rx_place_spec.specs.PlaceBytes.{state_in}
 use Rattle.exec_spec.specs.Handling.{fixed}
@@ -8,8 +7,8 @@ use Rattle.exec_spec.specs.LentBoard.{contents_in}
 use Rattle.gridconnect_session.proofs.ChunkLaws.{step_none, step_line}
 use Rattle.gridconnect_session.proofs.answer_next.Goals as goal
 
-pub returns-then-not-next : goal.returns-then-not-next
-returns-then-not-next c = step_none _ _ _ c.args.next _ _ c.requires (not-true _ c.if-not-next.true)
+pub returns-in_default : goal.returns-in_default
+returns-in_default c = rw c.in_default.is (step_none _ _ _ _ _ c.requires)
 
 pub returns : goal.returns
 returns c =
@@ -17,4 +16,4 @@ returns c =
     let x = fixed a.alias a.write_lengths (spaces_in a.spaces.now) a.flash.now in
     let st = state_in a.places.now a.pool.now in
     let w = contents_in a.memory.now a.registers.now in
-    step_line x st w a.next a.at a.out.now c.requires (not-false _ c.if-not-next.false) c.answer_line.ensures
+    rw c.in-Some.is (step_line x st w a.at a.out.now c.requires c.in-Some.parsed c.answer_line.ensures)

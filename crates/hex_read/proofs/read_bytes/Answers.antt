@@ -1,7 +1,7 @@
 -- `read_bytes` meets its contract. The invariant: what is left decides whether all are digits, and if they are, storing its bytes makes
 -- the bytes of the whole.
 -- Assumes nothing.
-use Prim.Native.Nat.{ℕ, ◌+◌, ◌*◌, ◌-◌, ◌%◌, ◌≤◌, ◌<◌}
+use Prim.Native.Nat.{ℕ, ◌+◌, ◌*◌, ◌-◌, ◌/◌, ◌%◌, ◌≤◌, ◌<◌}
 use mathlib.Core.Path.{◌≡◌, sym, ap, ◌∙◌}
 use mathlib.Core.Bool.{true, false}
 use mathlib.Core.List.{List, [], ◌++◌}
@@ -14,10 +14,12 @@ use lib.Seq.{sets}
 use Rattle.buffer.proofs.Laws.{put_sets, put_first, over_zeros}
 use Rattle.hex_digit.specs.Digit.{digit_value}
 use Rattle.hex_print.specs.Digits.{all_digits}
-use Rattle.hex_read.specs.Reading.{bytes_in, read_of, no_hex_bytes}
+use Rattle.hex_read.specs.Reading.{bytes_in, read_of}
+use Rattle.std.specs.Prelude.{Some, None}
 use Rattle.hex_read.proofs.BackLaws.{bytes-read-back, bytes-again}
 use Rattle.hex_read.proofs.ReadLaws.{Passed, passed, small, one-bad, all-good, next_pair, pair-value, half}
 use Rattle.hex_read.proofs.read_bytes.Goals as goal
+use Rattle.hex_read.proofs.read_bytes.Goals.{then-size-gt16-via-then-size-gt16, then-size-gt16-via-else-size-gt16+then-size-ne0}
 
 -- a turn: two digits, and the byte that is stored
 module _ (s : List ℕ) (i worst x y : ℕ) (h : i + 1 < length s) (ex : x ≡ digit_value (get_or s i 0)) (ey : y ≡ digit_value (get_or s (i + 1) 0))
@@ -50,22 +52,22 @@ unfolding bytes_in
 no_more s i h = rw (drop_of_length-le s {i = i} h)
 
 module _ (s : List ℕ) where
-  too_long : 16 < length s → no_hex_bytes ≡ read_of s
+  too_long : 16 < length s → None ≡ read_of s
   unfolding read_of
   too_long h = rw (lt-leb (length s) 16 h)
 
   module _ (h : length s ≤ 16) where
-    is_odd : (bit_and (length s) 1 ≡ 0 → ⊥) → no_hex_bytes ≡ read_of s
+    is_odd : (bit_and (length s) 1 ≡ 0 → ⊥) → None ≡ read_of s
     unfolding read_of
     is_odd f = simp (le-leb (length s) 16 h, ne_eqb (length s % 2) 0 (λ e. f (and_mask (length s) 1 ∙ e)))
 
     module _ (even : length s % 2 ≡ 0) where
-      no-digits : all_digits s ≡ false → no_hex_bytes ≡ read_of s
+      no-digits : all_digits s ≡ false → None ≡ read_of s
       unfolding read_of
       no-digits f = simp (le-leb (length s) 16 h, eq-eqb (length s % 2) 0 even, f)
 
       whole : (bytes : List ℕ) (n i : ℕ) → length s ≤ i → all_digits s ≡ true → sets bytes n (bytes_in (drop i s)) ≡ sets (replicate 8 0) 0 (bytes_in s)
-          → n + length (bytes_in (drop i s)) ≡ length (bytes_in s) → record { good = true; len = n; bytes = bytes } ≡ read_of s
+          → n + length (bytes_in (drop i s)) ≡ length (bytes_in s) → Some (record { len = n; bytes = bytes }) ≡ read_of s
       unfolding read_of
       whole bytes n i k t st ct =
           let none = no_more s i k in
@@ -79,42 +81,39 @@ even s e = sym (and_mask (length s) 1) ∙ e
 
 pub returns-then-size-gt16 : goal.returns-then-size-gt16
 returns-then-size-gt16 c = record {
-  value = c.no_bytes.ensures ∙ too_long _ c.if-size-gt16.true;
+  value = elim c.then-size-gt16.branch [
+    | then-size-gt16-via-then-size-gt16 w ↦ too_long _ w.if-size-gt16.true
+    | then-size-gt16-via-else-size-gt16+then-size-ne0 w ↦ is_odd _ w.if-size-gt16.false w.if-size-ne0.true
+  ];
   read_back = bytes-read-back;
   printed_again = bytes-again;
 }
 
-pub returns-then-size-ne0 : goal.returns-then-size-ne0
-returns-then-size-ne0 c = record {
-  value = c.no_bytes-then-size-ne0.ensures ∙ is_odd _ c.if-size-gt16.false c.if-size-ne0.true;
-  read_back = bytes-read-back;
-  printed_again = bytes-again;
-}
-
-pub loop-i-preserved : goal.loop-i-preserved
-loop-i-preserved c =
+pub loop-n-preserved : goal.loop-n-preserved
+loop-n-preserved c =
     let s = c.args.text.now in
-    let l = c.loop-i in
+    let l = c.loop-n in
     let v = even s c.if-size-ne0.false in
-    let h : l.i + 1 < length s = omega arith in
+    let i = l.n + l.n in
+    let h : i + 1 < length s = omega arith in
     let x = c.value_of-high.result in
     let y = c.value_of-low.result in
     let ex = c.value_of-high.ensures in
-    let ey = c.value_of-low.ensures in (
-      omega arith,
-      omega arith,
-      both s l.i l.worst x y h ex ey l.invariant.2,
-      λ t. rw c.byte_of.ensures (stored s l.i l.worst x y h ex ey l.invariant.2 l.bytes l.n t) ∙ l.invariant.3 t,
-      sym (counted s l.i l.n h) ∙ l.invariant.4,
+    let ey = c.value_of-low.ensures in
+    let e : l.n + 1 + (l.n + 1) ≡ i + 2 = omega arith in
+    rw e (
+      both s i l.worst x y h ex ey l.invariant.0,
+      λ t. rw c.byte_of.ensures (stored s i l.worst x y h ex ey l.invariant.0 l.bytes l.n t) ∙ l.invariant.1 t,
+      sym (counted s i l.n h) ∙ l.invariant.2,
     )
 
 pub returns-then-worst-gt15 : goal.returns-then-worst-gt15
 returns-then-worst-gt15 c =
     let s = c.args.text.now in
-    let l = c.loop-i in
-    let f = one-bad s l.i l.worst l.invariant.2 c.if-worst-gt15.true in
+    let l = c.loop-n in
+    let f = one-bad s (l.n + l.n) l.worst l.invariant.0 c.if-worst-gt15.true in
     record {
-      value = c.no_bytes-then-worst-gt15.ensures ∙ no-digits s c.if-size-gt16.false (even s c.if-size-ne0.false) f;
+      value = no-digits s c.if-size-gt16.false (even s c.if-size-ne0.false) f;
       read_back = bytes-read-back;
       printed_again = bytes-again;
     }
@@ -122,7 +121,10 @@ returns-then-worst-gt15 c =
 pub returns : goal.returns
 returns c =
     let s = c.args.text.now in
-    let l = c.loop-i in
-    let t = all-good s l.i l.worst l.invariant.2 (omega arith) (omega arith) in
-    let w = whole s c.if-size-gt16.false (even s c.if-size-ne0.false) l.bytes l.n l.i (omega arith) t in
-    record { value = w (l.invariant.3 t) l.invariant.4; read_back = bytes-read-back; printed_again = bytes-again }
+    let l = c.loop-n in
+    let v = even s c.if-size-ne0.false in
+    let i = l.n + l.n in
+    let t = all-good s i l.worst l.invariant.0 (omega arith) (omega arith) in
+    let n : length s / 2 ≡ l.n = omega arith in
+    let w = whole s c.if-size-gt16.false v l.bytes l.n i (omega arith) t in
+    record { value = rw n (w (l.invariant.1 t) l.invariant.2); read_back = bytes-read-back; printed_again = bytes-again }

@@ -13,7 +13,8 @@ use lib.Bits.{bit_and, and_mask}
 use lib.ListN.{length, drop, get_or, drop_of_length-le}
 use Rattle.hex_digit.specs.Digit.{digit_value}
 use Rattle.hex_print.specs.Digits.{all_digits, number_in}
-use Rattle.hex_read.specs.Reading.{number, no_number, read_number}
+use Rattle.hex_read.specs.Reading.{read_number}
+use Rattle.std.specs.Prelude.{Some, None}
 use Rattle.hex_read.proofs.BackLaws.{number-read-back, number-again}
 use Rattle.hex_read.proofs.ReadLaws.{next_one, behind, passed, small, one-bad, all-good}
 use Rattle.hex_read.proofs.read_number.Goals as goal
@@ -42,16 +43,16 @@ number-next s i value x h e = ap (λ (l : List ℕ). behind value l) (next_one s
 
 -- the ends
 module _ (s : List ℕ) where
-  not_eight : (length s ≡ 8 → ⊥) → no_number ≡ read_number s
+  not_eight : (length s ≡ 8 → ⊥) → None ≡ read_number s
   unfolding read_number
   not_eight h = rw (ne_eqb (length s) 8 h)
 
   module _ (l : length s ≡ 8) where
-    no_number_lem : all_digits s ≡ false → no_number ≡ read_number s
+    no-number : all_digits s ≡ false → None ≡ read_number s
     unfolding read_number
-    no_number_lem f = simp (eq-eqb (length s) 8 l, f)
+    no-number f = simp (eq-eqb (length s) 8 l, f)
 
-    a-number : (v : ℕ) → all_digits s ≡ true → behind v (drop 8 s) ≡ number_in s → number v ≡ read_number s
+    a-number : (v : ℕ) → all_digits s ≡ true → behind v (drop 8 s) ≡ number_in s → Some v ≡ read_number s
     unfolding read_number number_in
     a-number v t e =
         let n : drop 8 s ≡ [] = drop_of_length-le s {i = 8} (omega arith) in
@@ -66,29 +67,30 @@ returns-then-text-ne8 c = record {
   printed_again = number-again;
 }
 
-pub loop-i-init : goal.loop-i-init
-loop-i-init c = (omega arith, omega arith, refl, λ t. rw (zero-mul, zero-add))
+pub loop-c-init : goal.loop-c-init
+loop-c-init c = (omega arith, refl, λ t. rw (zero-mul, zero-add))
 
-pub loop-i-preserved : goal.loop-i-preserved
-loop-i-preserved c =
+pub loop-c-preserved : goal.loop-c-preserved
+loop-c-preserved c =
     let s = c.args.text.now in
-    let l = c.loop-i in
+    let l = c.loop-c in
+    let i = l.c-index in
     let x = c.value_of-digit.result in
     let e = c.value_of-digit.ensures in
-    let h : l.i < 8 = omega arith in
-    let k : l.i < length s = omega arith in (
-      omega arith,
-      below l.i l.value x h l.invariant.1,
-      passed s l.i l.worst x k e l.invariant.2,
-      λ t. ap (λ (v : ℕ). behind v (drop (l.i + 1) s)) (value-is l.i l.value x h l.invariant.1 (small s l.i l.worst x k e l.invariant.2 t)) ∙ sym (number-next s l.i l.value x k e) ∙ l.invariant.3 t,
+    let k : i < length s = omega arith in
+    let h : i < 8 = omega (arith, c.if-text-ne8.false) in
+    rw c.from.ensures (
+      below i l.value x h l.invariant.0,
+      passed s i l.worst x k e l.invariant.1,
+      λ t. ap (λ (v : ℕ). behind v (drop (i + 1) s)) (value-is i l.value x h l.invariant.0 (small s i l.worst x k e l.invariant.1 t)) ∙ sym (number-next s i l.value x k e) ∙ l.invariant.2 t,
     )
 
 pub returns-then-worst-gt15 : goal.returns-then-worst-gt15
 returns-then-worst-gt15 c =
     let s = c.args.text.now in
-    let l = c.loop-i in
+    let l = c.loop-c in
     record {
-      value = no_number_lem s c.if-text-ne8.false (one-bad s l.i l.worst l.invariant.2 c.if-worst-gt15.true);
+      value = no-number s c.if-text-ne8.false (one-bad s l.c-index l.worst l.invariant.1 c.if-worst-gt15.true);
       read_back = number-read-back;
       printed_again = number-again;
     }
@@ -96,11 +98,11 @@ returns-then-worst-gt15 c =
 pub returns : goal.returns
 returns c =
     let s = c.args.text.now in
-    let l = c.loop-i in
-    let e : l.i ≡ 8 = omega arith in
-    let t = all-good s l.i l.worst l.invariant.2 (omega arith) (omega arith) in
+    let l = c.loop-c in
+    let e : l.c-index ≡ 8 = omega (arith, c.if-text-ne8.false) in
+    let t = all-good s l.c-index l.worst l.invariant.1 (omega arith) (omega arith) in
     record {
-      value = a-number s c.if-text-ne8.false l.value t (rw e at (l.invariant.3 t));
+      value = a-number s c.if-text-ne8.false l.value t (rw e at (l.invariant.2 t));
       read_back = number-read-back;
       printed_again = number-again;
     }

@@ -1,6 +1,5 @@
 -- `answer_line` meets its contract.
 -- Assumes nothing.
-use borrow.Author.Tests.{not-true, not-false}
 use Rattle.space_table.specs.Table.{spaces_in}
 use Rattle.rx_place_spec.specs.PlaceBytes.{state_in}
 use Rattle.exec_spec.specs.Handling.{fixed}
@@ -12,10 +11,10 @@ use Rattle.gridconnect_session.proofs.line.answer_line.Goals as goal
 pub returns-then-not-has_room : goal.returns-then-not-has_room
 returns-then-not-has_room c = line-none _ _ _ _ _ _ (room_none _ _ c.has_room.ensures c.if-not-has_room.true)
 
-pub returns-then-not-parsed : goal.returns-then-not-parsed
-returns-then-not-parsed c =
+pub returns-in_default : goal.returns-in_default
+returns-in_default c =
     let room = room_there _ _ c.has_room.ensures c.if-not-has_room.false in
-    line-unknown _ _ _ _ _ _ room (not-true _ c.if-not-parsed.true) c.print_unknown.ensures
+    rw c.in_default.is (line-unknown _ _ _ _ _ room c.print_unknown.ensures)
 
 pub returns : goal.returns
 returns c =
@@ -25,5 +24,4 @@ returns c =
     let w = contents_in a.memory.now a.registers.now in
     let room = room_there _ _ c.has_room.ensures c.if-not-has_room.false in
     let e = c.answer_frame-sent.ensures.ends in
-    line-handled x st w a.parsed a.at a.out.now room c.part.ensures (not-false _ c.if-not-parsed.false)
-    e.ends.answers e.ends.keeps e.sent c.print_frames.ensures
+    rw c.in-Some.is (line-handled x st w a.at a.out.now room c.in-Some.frame c.part.ensures e.ends.answers e.ends.keeps e.sent c.print_frames.ensures)
