@@ -105,6 +105,18 @@ pub fn print_frame(frame: &[u8; 16], out: &mut [u8], at: usize) -> usize
     gridconnect_print::print_frame(can_frame_bytes::frame_in(frame), out, at)
 }
 
+// A step that completes a line: the carry behind it is known. One that is copied waits in memory for what made it, and
+// makes the reading of a chunk slower by a tenth.
+fn completed(parsed: Parsed, at: usize) -> Next
+    ensures { result ≡ line parsed (carry_of []) at }
+{
+    Next {
+        line: Some(parsed),
+        carry: gridconnect_input::start(),
+        at,
+    }
+}
+
 // The next line of an input that comes in chunks, from an index of the chunk on, and the index up to which the chunk is
 // read; the carry is the beginning of a line that an earlier chunk left.
 pub fn next_line(chunk: &[u8], from: usize, carry: &mut CarryBytes, line: &mut LineBytes) -> usize
@@ -113,6 +125,10 @@ pub fn next_line(chunk: &[u8], from: usize, carry: &mut CarryBytes, line: &mut L
     ensures again { CarryAgain }
 {
     let next = gridconnect_lines::next_line(chunk, from, carry_in(carry));
+    if let Some(parsed) = next.line {
+        take_step(completed(parsed, next.at), carry, line);
+        return next.at;
+    }
     take_step(next, carry, line);
     next.at
 }
