@@ -116,7 +116,8 @@ pub fn text_from(start: usize, end: usize) -> Option<Span>
     })
 }
 
-// A number of two bytes, most significant first.
+// A number of two bytes, most significant first: std's, with a clause that says it as specs/ does. It stays a function,
+// since must-fail/two_bytes_exchanged is about its line.
 pub fn two_bytes(high: u8, low: u8) -> u16
     ensures { result ≡ high * 256 + low }
 {

@@ -76,7 +76,7 @@ pub fn of_rejection(rejection: Option<Rejection>) -> RejectionFields
     }
 }
 
-// How a space is named.
+// How a space is named, as C's number of it.
 fn form_number(form: Form) -> u8
     ensures { result ≡ form_number form }
 {
