@@ -53,7 +53,7 @@ fn lowest_address(datagram: &[u8]) -> Option<u32>
     Some(buffer::number(datagram[8], datagram[9], datagram[10], datagram[11]))
 }
 
-// The information on a space that is present or not.
+// The information on a space. Whether it is present is a field of what is found, and chooses nothing here.
 #[tactic(auto, unfolding(tool_read_spec::specs::Finding::find_information))]
 pub fn information(datagram: &[u8], present: bool) -> Option<ReplyIn>
     ensures { result ≡ find_information present datagram.now }

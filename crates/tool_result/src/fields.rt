@@ -34,8 +34,7 @@ pub fn of_received(received: Option<Received>) -> Acknowledged
     match received {
         None => Acknowledged {
             refusal: 3,
-            pending: false,
-            timeout: 0,
+            ..Acknowledged::default()
         },
         Some(Received { pending, timeout }) => Acknowledged {
             refusal: 0,
@@ -65,8 +64,7 @@ pub fn of_rejection(rejection: Option<Rejection>) -> RejectionFields
     match rejection {
         None => RejectionFields {
             refusal: 3, // over 66 bytes
-            code: 0,
-            further: range(None),
+            ..RejectionFields::default()
         },
         Some(Rejection { code, further }) => RejectionFields {
             refusal: 0,

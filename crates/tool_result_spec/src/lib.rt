@@ -16,14 +16,14 @@ pub struct Composed {
 
 // Received OK: 3 for W3, or 0 and the fields.
 #[repr(C)]
-#[derive(Drop)]
+#[derive(Clone, Copy, Default)]
 pub struct Acknowledged {
     pub refusal: u32,
     pub pending: bool,
     pub timeout: u8,
 }
 
-// Bytes in what was lent: whether there are such bytes, where they start, and how many they are.
+// Bytes in what was lent, as C has an Option of them: whether there are such bytes, where they start, and how many they are.
 #[repr(C)]
 #[derive(Clone, Copy, Default)]
 pub struct ByteRange {
@@ -34,14 +34,14 @@ pub struct ByteRange {
 
 // Rejected: 3 for W3, or 0, the code and further bytes.
 #[repr(C)]
-#[derive(Clone, Copy)]
+#[derive(Clone, Copy, Default)]
 pub struct RejectionFields {
     pub refusal: u32,
     pub code: u16,
     pub further: ByteRange,
 }
 
-// The options.
+// The options. C has a flag for the lowest space, since it may be missing.
 #[repr(C)]
 #[derive(Clone, Copy, Default)]
 pub struct OptionsFields {
@@ -52,7 +52,7 @@ pub struct OptionsFields {
     pub lowest_space: u8,
 }
 
-// The information on a space.
+// The information on a space. C has a flag for the lowest address, since it may be missing.
 #[repr(C)]
 #[derive(Clone, Copy, Default)]
 pub struct InformationFields {
