@@ -3,23 +3,7 @@
 #![tactic(auto)]
 
 ghost use Rattle.std.specs.Prelude.{◌≡◌};
-ghost use Rattle.cmd_fields.specs.Commands.{pair};
 ghost use Rattle.mask_combine.specs.Combining.{zero_outside, put_together, pair_in, mask_and_data, PairsAddUp};
-
-// The masks, and the data that go with each, as the numbers that they are.
-fn put_pair(
-    earlier_mask: u8,
-    earlier_data: u8,
-    later_mask: u8,
-    later_data: u8,
-    together: &mut [u8; 2],
-)
-    ensures { together.new ≡ mask_and_data (put_together (zero_outside (pair earlier_mask earlier_data))
-        (zero_outside (pair later_mask later_data))) }
-{
-    let kept = earlier_data & earlier_mask & (255 - later_mask);
-    *together = [earlier_mask | later_mask, kept | (later_data & later_mask)];
-}
 
 // What the earlier and then the later do to a byte, as one. Each is a mask and then its data: the bits at 1 in the mask
 // are taken from the data, the others kept. Data outside a mask play no part, and are zero in the result.
@@ -28,5 +12,8 @@ pub fn put_together(earlier: &[u8; 2], later: &[u8; 2], together: &mut [u8; 2])
         (zero_outside (pair_in later.now))) }
     ensures adds_up { PairsAddUp }
 {
-    put_pair(earlier[0], earlier[1], later[0], later[1], together);
+    let [earlier_mask, earlier_data] = *earlier;
+    let [later_mask, later_data] = *later;
+    let kept = earlier_data & earlier_mask & !later_mask;
+    *together = [earlier_mask | later_mask, kept | (later_data & later_mask)];
 }
