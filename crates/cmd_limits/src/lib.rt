@@ -15,31 +15,20 @@ pub fn count_in(byte: u8) -> u8
 pub fn count_fits(count: u8) -> bool
     ensures { result ≡ count_fits count }
 {
-    if count == 0 {
-        return false;
-    }
-    count <= 64
+    (1..=64).contains(&count)
 }
 
-// Whether a write may have so many bytes: 1 to 64.
+// Whether a write may have so many bytes: 1 to 64. (One function with a type parameter for this and `count_fits` would
+// be longer than the two.)
 pub fn bytes_fit(n: usize) -> bool
     ensures { result ≡ bytes_fit n }
 {
-    if n == 0 {
-        return false;
-    }
-    n <= 64
+    (1..=64).contains(&n)
 }
 
 // Whether so many bytes are the pairs of a masked write: 1 to 32 pairs, of two bytes each.
 pub fn pairs_fit(n: usize) -> bool
     ensures { result ≡ pairs_fit n }
 {
-    if n == 0 {
-        return false;
-    }
-    if 64 < n {
-        return false;
-    }
-    n % 2 == 0
+    bytes_fit(n) && n % 2 == 0
 }
