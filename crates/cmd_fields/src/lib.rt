@@ -27,6 +27,9 @@ pub enum Kind {
     Unknown,
 }
 
+// A command has a kind and a form. Neither is the command itself in another type, so they are two functions with names
+// and no `From<u8>`, which would say less at a call.
+#[tactic(auto, unfolding(crate::specs::Commands::kind_of_command))]
 pub fn kind_of(command: u8) -> Kind
     ensures { result ≡ kind_of_command command }
 {
@@ -48,26 +51,20 @@ pub fn form_of(command: u8) -> Form
     if 0x80 <= command {
         return Form::NoSpace;
     }
-    let low = command % 4;
-    if low == 0 {
-        return Form::Byte6;
+    match command % 4 {
+        0 => Form::Byte6,
+        1 => Form::Fd,
+        2 => Form::Fe,
+        _ => Form::Ff,
     }
-    if low == 1 {
-        return Form::Fd;
-    }
-    if low == 2 {
-        return Form::Fe;
-    }
-    Form::Ff
 }
 
-// The low two bits of a form.
+// The low two bits of a form. Two forms have the same, so they are no discriminants.
 fn form_bits(form: Form) -> u8
     ensures { (result ≡ form_bits form) × (result ≤ 3) }
 {
     match form {
-        Form::NoSpace => 0,
-        Form::Byte6 => 0,
+        Form::NoSpace | Form::Byte6 => 0,
         Form::Fd => 1,
         Form::Fe => 2,
         Form::Ff => 3,
@@ -88,24 +85,16 @@ pub fn head_length(form: Form) -> usize
     match form {
         Form::NoSpace => 2,
         Form::Byte6 => 7,
-        Form::Fd => 6,
-        Form::Fe => 6,
-        Form::Ff => 6,
+        Form::Fd | Form::Fe | Form::Ff => 6,
     }
 }
 
-// A byte of a datagram, or 0 where it has none: decoding refuses a datagram that is too short by its length, and uses
-// no such 0.
-fn byte_in(datagram: &[u8], at: usize) -> u8
-    ensures { result ≡ get_or datagram.now at 0 }
-{
-    if at < datagram.len() { datagram[at] } else { 0 }
-}
-
+// A byte that a datagram has not is read as 0: decoding refuses a datagram that is too short by its length, and uses no
+// such 0.
 pub fn command_in(datagram: &[u8]) -> u8
     ensures { result ≡ get_or datagram.now 1 0 }
 {
-    byte_in(datagram, 1)
+    buffer::byte_in(datagram, 1)
 }
 
 pub fn form_in(datagram: &[u8]) -> Form
@@ -118,36 +107,29 @@ pub fn address_in(datagram: &[u8]) -> u32
     ensures { result ≡ address_of datagram.now }
 {
     buffer::number(
-        byte_in(datagram, 2),
-        byte_in(datagram, 3),
-        byte_in(datagram, 4),
-        byte_in(datagram, 5),
+        buffer::byte_in(datagram, 2),
+        buffer::byte_in(datagram, 3),
+        buffer::byte_in(datagram, 4),
+        buffer::byte_in(datagram, 5),
     )
 }
 
-// The number of the space: byte 6 where the low two bits are 0, and else from 0xFD on by them; 0 where the command
-// names none.
+// The number of the space; 0 where the command names none.
 pub fn space_in(datagram: &[u8], command: u8) -> u8
     ensures { result ≡ space_of (form_of command) datagram.now }
 {
-    if 0x80 <= command {
-        return 0;
+    match form_of(command) {
+        Form::NoSpace => 0,
+        Form::Byte6 => buffer::byte_in(datagram, 6),
+        Form::Fd => 0xFD,
+        Form::Fe => 0xFE,
+        Form::Ff => 0xFF,
     }
-    let low = command % 4;
-    if low == 0 {
-        return byte_in(datagram, 6);
-    }
-    0xFC + low
 }
 
 // The bytes behind a datagram's command, address and space byte.
 pub fn remaining_in(datagram: &[u8], command: u8) -> &[u8]
     ensures { result.now ≡ drop (head_length (form_of command)) datagram.now }
 {
-    let head = head_length(form_of(command));
-    let end = datagram.len();
-    if end < head {
-        return &datagram[end..];
-    }
-    &datagram[head..]
+    &datagram[head_length(form_of(command)).min(datagram.len())..]
 }
