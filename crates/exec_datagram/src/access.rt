@@ -11,7 +11,6 @@ ghost use Rattle.exec_spec.specs.Access.{bytes_read, read_result, WriteEnds};
 
 use cmd_fields::Form;
 use reply_answer::Answer;
-use space_reach::Access;
 use space_table::Space;
 
 // The bytes of a space from an address of it on, up to `count`.
@@ -56,20 +55,19 @@ pub fn read<'a>(
         (access false (find_space (spaces_in spaces.now) number) address 1))) result out.old out.new }
 {
     match space_reach::reach(spaces, false, number, address, 1) {
-        Access::Fails(code) => reply_datagram::failed_read(out, form, number, address, code),
-        Access::Reaches(space) => {
-            reply_datagram::read(
-                out,
-                form,
-                number,
-                address,
-                bytes_in(space, flash, memory, address, count),
-            )
+        Err(failure) => {
+            reply_datagram::failed_read(out, form, number, address, space_reach::code_of(failure))
+        }
+        Ok(space) => {
+            let bytes = bytes_in(space, flash, memory, address, count);
+            reply_datagram::read(out, form, number, address, bytes)
         }
     }
 }
 
-// Writes bytes of the space with that number, all of them or none.
+// Writes bytes of the space with that number, all of them or none. A masked write, below, has another count and another
+// store, and shares the rest: `reach`, `index_of`, `failed_write`. One function for both, over a closure that stores,
+// would take eight arguments of either, with a `requires` that the closure may be called.
 pub fn write(
     spaces: &[u8],
     memory: &mut [u8],
@@ -86,13 +84,13 @@ pub fn write(
 {
     let n = bytes.len();
     match space_reach::reach(spaces, true, number, address, n) {
-        Access::Fails(code) => {
-            return reply_datagram::failed_write(out, form, number, address, code);
+        Err(failure) => {
+            reply_datagram::failed_write(out, form, number, address, space_reach::code_of(failure))
         }
-        Access::Reaches(space) => {
+        Ok(space) => {
             let index = index_of(space, address);
             buffer::put(memory, index, bytes);
-            return Answer::Written(index, n);
+            Answer::Written(index, n)
         }
     }
 }
@@ -113,13 +111,13 @@ pub fn write_masked(
 {
     let n = pairs.len() / 2;
     match space_reach::reach(spaces, true, number, address, n) {
-        Access::Fails(code) => {
-            return reply_datagram::failed_write(out, form, number, address, code);
+        Err(failure) => {
+            reply_datagram::failed_write(out, form, number, address, space_reach::code_of(failure))
         }
-        Access::Reaches(space) => {
+        Ok(space) => {
             let index = index_of(space, address);
             exec_store::put_masked(memory, index, pairs);
-            return Answer::Written(index, n);
+            Answer::Written(index, n)
         }
     }
 }

@@ -23,17 +23,15 @@ use Rattle.reply_datagram.specs.Replies.{in_bytes}
 use Rattle.reply_datagram.specs.Inquiry.{information_reply, access_flag}
 use Rattle.reply_answer.specs.Answers.{Result, datagram_rejected, written, update_completed, received_ok_reply, fitted, answer_of, ok_flags, transport_of}
 use Rattle.reply_answer.specs.declared.Answer.{Answer}
-use Rattle.space_reach.specs.Reach.{access}
+use Rattle.space_reach.specs.Reach.{ReachResult, access}
 use Rattle.space_reach.proofs.Laws.{writes-fit}
 use Rattle.exec_store.specs.Storing.{store_bytes, store_masked, OnlyWithin}
 use Rattle.exec_store.proofs.Laws.{bytes-within, pairs-within}
 use Rattle.exec_spec.specs.Access.{read_result, write_result}
-use Rattle.space_reach.specs.declared.Access.{Access}
-use Rattle.space_reach.specs.declared.Access.TheVariants.{Fails, Reaches}
 use Rattle.exec_spec.proofs.AccessLaws.{write-changes}
 use Rattle.exec_spec.specs.Performing.{Fixed, Contents, found_in, outcome, sent, write_outcome, perform, Announced, Leaves, SixBytes, Performed}
 use Rattle.exec_spec.specs.Handling.{answer_reading, handle, Short, Performs, WrittenInside, Bounds, HandleBounds}
-use Rattle.std.specs.Prelude.{Ok}
+use Rattle.std.specs.Prelude.{Ok, Err}
 
 -- ---- the lengths of the replies
 
@@ -52,15 +50,15 @@ behind-head : (command : ℕ) (form : Form) (space address : ℕ) (bytes : List 
 behind-head command form space address bytes h =
     rw (length-append (head_bytes command form space address) bytes) (omega (arith, head_at_most command form space address, h))
 
-read_short : (flash memory : List ℕ) (form : Form) (space address count : ℕ) (a : Access) → count ≤ 64 → Short (in_bytes (read_result flash memory form space address count a))
+read_short : (flash memory : List ℕ) (form : Form) (space address count : ℕ) (a : ReachResult) → count ≤ 64 → Short (in_bytes (read_result flash memory form space address count a))
 unfolding read_result
-read_short flash memory form space address count (Fails code) h = behind-head _ form space address _ (omega arith)
-read_short flash memory form space address count (Reaches s) h = behind-head _ form space address _ (rw length-take (omega arith))
+read_short flash memory form space address count (Err failure) h = behind-head _ form space address _ (omega arith)
+read_short flash memory form space address count (Ok s) h = behind-head _ form space address _ (rw length-take (omega arith))
 
-write-short : (form : Form) (space address n : ℕ) (a : Access) → n ≤ 64 → Short (in_bytes (write_result form space address n a))
+write-short : (form : Form) (space address n : ℕ) (a : ReachResult) → n ≤ 64 → Short (in_bytes (write_result form space address n a))
 unfolding write_result
-write-short form space address n (Fails code) h = behind-head _ form space address _ (omega arith)
-write-short form space address n (Reaches s) h = h
+write-short form space address n (Err failure) h = behind-head _ form space address _ (omega arith)
+write-short form space address n (Ok s) h = h
 
 information-short : (n : ℕ) (found : Found) → length (reply_bytes (information_reply n found)) ≤ 72
 unfolding information_reply
@@ -101,10 +99,10 @@ whole (received_ok_reply reply) buffer s h = rw (le-leb (length reply) (length b
 
 -- ---- a reply is announced
 
-read-announced : (flash memory : List ℕ) (form : Form) (space address count : ℕ) (a : Access) → transport_of (answer_of (in_bytes (read_result flash memory form space address count a))) ≡ ok_flags 0x80
+read-announced : (flash memory : List ℕ) (form : Form) (space address count : ℕ) (a : ReachResult) → transport_of (answer_of (in_bytes (read_result flash memory form space address count a))) ≡ ok_flags 0x80
 unfolding read_result
-read-announced flash memory form space address count (Fails code) = refl
-read-announced flash memory form space address count (Reaches s) = refl
+read-announced flash memory form space address count (Err failure) = refl
+read-announced flash memory form space address count (Ok s) = refl
 
 pub announced : (x : Fixed) (c : Contents) (form : Form) (q : Request) → Announced q (in_bytes (perform x c form q).result)
 unfolding perform
@@ -131,19 +129,19 @@ leaves x c form update_complete = refl
 -- ---- the bytes that an outcome changes
 
 module _ (x : Fixed) (c : Contents) where
-  read-bounds : (form : Form) (space address count : ℕ) (a : Access) →
+  read-bounds : (form : Form) (space address count : ℕ) (a : ReachResult) →
       Bounds x c (sent (outcome (read_result x.flash c.memory form space address count a) c))
   unfolding read_result
-  read-bounds form space address count (Fails code) = record { changes = refl; inside = λ _. tt }
-  read-bounds form space address count (Reaches s) = record { changes = refl; inside = λ _. tt }
+  read-bounds form space address count (Err failure) = record { changes = refl; inside = λ _. tt }
+  read-bounds form space address count (Ok s) = record { changes = refl; inside = λ _. tt }
 
   module _ (form : Form) (space address n : ℕ) where
-    write-inside : (a : Access) → access true (found_in x space) address n ≡ a →
+    write-inside : (a : ReachResult) → access true (found_in x space) address n ≡ a →
         description_check x.alias x.spaces (length x.flash) (length c.memory) ≡ Ok tt →
         WrittenInside (length c.memory) (in_bytes (write_result form space address n a))
     unfolding write_result
-    write-inside (Fails code) e g = tt
-    write-inside (Reaches s) e g = writes-fit x.alias x.spaces (length x.flash) (length c.memory) space address n s g e
+    write-inside (Err failure) e g = tt
+    write-inside (Ok s) e g = writes-fit x.alias x.spaces (length x.flash) (length c.memory) space address n s g e
 
     write-bounds : (store : ℕ → List ℕ → List ℕ) → ((index : ℕ) → OnlyWithin index n c.memory (store index c.memory)) →
         Bounds x c (sent (write_outcome store x c form space address n))

@@ -14,9 +14,7 @@ use Rattle.space_lookup.specs.Description.{find_space}
 use Rattle.cmd_fields.specs.Commands.{Pair, Request, read, write, write_masked, options, information, reserve, update_complete}
 use Rattle.cmd_fields.specs.declared.Form.{Form}
 use Rattle.cmd_decode.specs.Decoding.{Reading, rejected, request, decode}
-use Rattle.space_reach.specs.Reach.{access, index_of}
-use Rattle.space_reach.specs.declared.Access.{Access}
-use Rattle.space_reach.specs.declared.Access.TheVariants.{Fails, Reaches}
+use Rattle.space_reach.specs.Reach.{ReachResult, access, index_of}
 use Rattle.space_reach.proofs.Laws.{writes-fit}
 use Rattle.reply_answer.specs.Answers.{answer_of, transport_of, ok_flags}
 use Rattle.exec_store.specs.Storing.{store_bytes, masked, store_masked}
@@ -32,7 +30,7 @@ use Rattle.mask_combine.proofs.ListLaws.{add_up}
 use Rattle.mask_effects_spec.specs.Effects.{PairsWritten, no_write, pairs_from, request_writes, reading_writes, written_by, is_pairs, is_write, reached_by, is_reached, accepted_pairs, is_accepted_write, placed_from, reached_effect, written_effect, effect_of, effect_of_all, contents_after_all, AcceptedWrites, Content, Does, AddsUp, OnGoodBoards}
 use Rattle.mask_effects_spec.proofs.StoreLaws.{BytePairs, keeps, bytes-stored, pairs-stored, placed-effect}
 use Rattle.mask_effects_spec.proofs.ReadingLaws.{BytesOf, BytesIn, decoded_bytes, ProperPairs, written-proper}
-use Rattle.std.specs.Prelude.{Ok}
+use Rattle.std.specs.Prelude.{Ok, Err}
 
 -- ---- contents
 
@@ -49,22 +47,22 @@ masked-bytes (x ∷ e) (o ∷ memory) p h (suc i) = masked-bytes e memory (λ j.
 abbrev Stores : (ℕ → List ℕ → List ℕ) → ℕ → List Pair → Type 0
 Stores store m e = (index : ℕ) (memory : List ℕ) → AllBytes memory → length memory ≡ m → index + length e ≤ m → store index memory ≡ masked (placed_from m index e) memory
 
-module _ (m address : ℕ) (e : List Pair) (a : Access) (fits : (s : Space) → a ≡ Reaches s → index_of s address + length e ≤ m) where
+module _ (m address : ℕ) (e : List Pair) (a : ReachResult) (fits : (s : Space) → a ≡ Ok s → index_of s address + length e ≤ m) where
   reached_effect_lem : AllProper e → Effect m (reached_effect m address e a)
   reached_effect_lem p = go a fits
     where
-      go : (a : Access) → ((s : Space) → a ≡ Reaches s → index_of s address + length e ≤ m) → Effect m (reached_effect m address e a)
-      go (Fails code) f = (add_up m).empty
-      go (Reaches s) f = placed-effect m (index_of s address) e p (f s refl)
+      go : (a : ReachResult) → ((s : Space) → a ≡ Ok s → index_of s address + length e ≤ m) → Effect m (reached_effect m address e a)
+      go (Err failure) f = (add_up m).empty
+      go (Ok s) f = placed-effect m (index_of s address) e p (f s refl)
 
   reached_does : (store : ℕ → List ℕ → List ℕ) → Stores store m e → (memory : List ℕ) → AllBytes memory → length memory ≡ m →
       memory_after store memory address a ≡ masked (reached_effect m address e a) memory
   unfolding memory_after
   reached_does store q memory h k = go a fits
     where
-      go : (a : Access) → ((s : Space) → a ≡ Reaches s → index_of s address + length e ≤ m) → memory_after store memory address a ≡ masked (reached_effect m address e a) memory
-      go (Fails code) f = sym (keeps m memory h)
-      go (Reaches s) f = q (index_of s address) memory h k (f s refl)
+      go : (a : ReachResult) → ((s : Space) → a ≡ Ok s → index_of s address + length e ≤ m) → memory_after store memory address a ≡ masked (reached_effect m address e a) memory
+      go (Err failure) f = sym (keeps m memory h)
+      go (Ok s) f = q (index_of s address) memory h k (f s refl)
 
 bytes-store : (m : ℕ) (bytes : List ℕ) → AllBytes bytes → Stores (store_bytes bytes) m (map plain bytes)
 bytes-store m bytes b index memory h k f = bytes-stored m index bytes memory b h (let l = length-map bytes plain in omega arith)
@@ -75,7 +73,7 @@ pairs-store m pairs b index memory h k f = pairs-stored m index pairs memory b h
 -- ---- one datagram
 
 module _ (x : Fixed) (m : ℕ) (good : description_check x.alias x.spaces (length x.flash) m ≡ Ok tt) where
-  fits : (space address : ℕ) (e : List Pair) (s : Space) → reached_by x.spaces space address e ≡ Reaches s → index_of s address + length e ≤ m
+  fits : (space address : ℕ) (e : List Pair) (s : Space) → reached_by x.spaces space address e ≡ Ok s → index_of s address + length e ≤ m
   fits space address e s q = writes-fit x.alias x.spaces (length x.flash) m space address (length e) s good q
 
   written-effect : (w : PairsWritten) → ProperPairs w → Effect m (written_effect x.spaces m w)
@@ -161,15 +159,15 @@ adds_up_lem x m good =
 -- ---- accepted writes
 
 module _ (form : Form) (space address n : ℕ) where
-  write-ok : (a : Access) → is_reached a ≡ true → transport_of (answer_of (in_bytes (write_result form space address n a))) ≡ ok_flags 0x00
+  write-ok : (a : ReachResult) → is_reached a ≡ true → transport_of (answer_of (in_bytes (write_result form space address n a))) ≡ ok_flags 0x00
   unfolding write_result
-  write-ok (Fails code) t = clash (sym t)
-  write-ok (Reaches s) t = refl
+  write-ok (Err failure) t = clash (sym t)
+  write-ok (Ok s) t = refl
 
-  ok_write : (a : Access) → transport_of (answer_of (in_bytes (write_result form space address n a))) ≡ ok_flags 0x00 → is_reached a ≡ true
+  ok_write : (a : ReachResult) → transport_of (answer_of (in_bytes (write_result form space address n a))) ≡ ok_flags 0x00 → is_reached a ≡ true
   unfolding write_result
-  ok_write (Fails code) t = let z : ◌≡◌ {A = ℕ} 0x80 0x00 = cc in absurd (omega arith)
-  ok_write (Reaches s) t = refl
+  ok_write (Err failure) t = let z : ◌≡◌ {A = ℕ} 0x80 0x00 = cc in absurd (omega arith)
+  ok_write (Ok s) t = refl
 
 -- by what the datagram asks for
 module _ (x : Fixed) (c : Contents) where
@@ -221,9 +219,9 @@ module _ (spaces : List Space) where
   pairs-written no_write t = t
   pairs-written (pairs_from space address e) t = refl
 
-  unreached : (m address : ℕ) (e : List Pair) (a : Access) → is_reached a ≡ false → reached_effect m address e a ≡ keeps_all m
-  unreached m address e (Fails code) t = refl
-  unreached m address e (Reaches s) t = clash t
+  unreached : (m address : ℕ) (e : List Pair) (a : ReachResult) → is_reached a ≡ false → reached_effect m address e a ≡ keeps_all m
+  unreached m address e (Err failure) t = refl
+  unreached m address e (Ok s) t = clash t
 
   refused : (m : ℕ) (w : PairsWritten) → accepted_pairs spaces w ≡ false → written_effect spaces m w ≡ keeps_all m
   refused m no_write t = refl

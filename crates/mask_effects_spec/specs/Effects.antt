@@ -1,14 +1,12 @@
 -- C-16 of document 02, "Writes that add up": what a list of datagrams does to every content of memory.
-use Rattle.std.specs.Prelude.{ℕ, ◌+◌, ◌-◌, ◌≡◌, Bool, true, false, List, [], ◌∷◌, ◌++◌, map, length, Ok}
+use Rattle.std.specs.Prelude.{ℕ, ◌+◌, ◌-◌, ◌≡◌, Bool, true, false, List, [], ◌∷◌, ◌++◌, map, length, Ok, Err}
 use Rattle.buffer.specs.Buffer.{AllBytes, Each}
 use Rattle.space_table.specs.declared.Space.{Space}
 use Rattle.space_lookup.specs.Description.{find_space}
 use Rattle.call_error.specs.CallErrors.{description_check}
 use Rattle.cmd_fields.specs.Commands.{Pair, Request, read, write, write_masked, options, information, reserve, update_complete}
 use Rattle.cmd_decode.specs.Decoding.{Reading, rejected, request, decode}
-use Rattle.space_reach.specs.Reach.{access, index_of}
-use Rattle.space_reach.specs.declared.Access.{Access}
-use Rattle.space_reach.specs.declared.Access.TheVariants.{Fails, Reaches}
+use Rattle.space_reach.specs.Reach.{ReachResult, access, index_of}
 use Rattle.reply_answer.specs.Answers.{answer_of, transport_of, ok_flags}
 use Rattle.exec_store.specs.Storing.{masked}
 use Rattle.exec_spec.specs.Handling.{Fixed, Contents, handle}
@@ -48,12 +46,12 @@ is_write d = is_pairs (written_by d)
 
 -- ---- accepted writes: by the described spaces and the datagram, and no content of memory
 
-abbrev pub reached_by : List Space → ℕ → ℕ → List Pair → Access
+abbrev pub reached_by : List Space → ℕ → ℕ → List Pair → ReachResult
 reached_by spaces space address pairs = access true (find_space spaces space) address (length pairs)
 
-abbrev pub is_reached : Access → Bool
-is_reached (Fails code) = false
-is_reached (Reaches s) = true
+abbrev pub is_reached : ReachResult → Bool
+is_reached (Err failure) = false
+is_reached (Ok s) = true
 
 abbrev pub accepted_pairs : List Space → PairsWritten → Bool
 accepted_pairs spaces no_write = false
@@ -70,9 +68,9 @@ abbrev pub placed_from : ℕ → ℕ → List Pair → List Pair
 placed_from m index pairs = keeps_all index ++ pairs ++ keeps_all (m - (index + length pairs))
 
 -- A write that reaches a space stands where the space's bytes stand in memory. One that fails does nothing.
-abbrev pub reached_effect : ℕ → ℕ → List Pair → Access → List Pair
-reached_effect m address pairs (Fails code) = keeps_all m
-reached_effect m address pairs (Reaches s) = placed_from m (index_of s address) pairs
+abbrev pub reached_effect : ℕ → ℕ → List Pair → ReachResult → List Pair
+reached_effect m address pairs (Err failure) = keeps_all m
+reached_effect m address pairs (Ok s) = placed_from m (index_of s address) pairs
 
 abbrev pub written_effect : List Space → ℕ → PairsWritten → List Pair
 written_effect spaces m no_write = keeps_all m

@@ -4,6 +4,7 @@ use Prim.Native.Nat.{ℕ, ◌+◌, ◌-◌, ◌≤◌}
 use mathlib.Core.Path.{◌≡◌, refl, sym, ◌∙◌}
 use mathlib.Core.Bool.{Bool, true, false, cond, ◌&&◌}
 use mathlib.Core.List.{List}
+use Rattle.std.specs.Prelude.{Ok, Err}
 use native.Mathlib.Omega.{arith}
 use lib.Dec.{leb}
 use borrow.Author.Tests.{leb-true, leb-false, le-leb, lt-leb}
@@ -14,12 +15,12 @@ use Rattle.space_table.specs.declared.Space.{Space}
 use Rattle.space_lookup.specs.declared.Found.{Found}
 use Rattle.space_lookup.specs.declared.Found.TheVariants.{Described, Empty, Unknown}
 use Rattle.call_error.proofs.Laws.{Fine, FoundFine, good-find}
-use Rattle.space_reach.specs.Reach.{inside, access, index_of, WritesFit}
-use Rattle.space_reach.specs.declared.Access.{Access}
-use Rattle.space_reach.specs.declared.Access.TheVariants.{Fails, Reaches}
+use Rattle.space_reach.specs.Reach.{ReachResult, inside, access, index_of, WritesFit}
+use Rattle.space_reach.specs.declared.Failure.{Failure}
+use Rattle.space_reach.specs.declared.Failure.TheVariants.{UnknownSpace, OutOfBounds, ReadOnlySpace}
 
 pub reach_by : (s : Space) (address n : ℕ) (writes inner : Bool) → (writes && s.read_only) ≡ false → inner ≡ inside s address n →
-    cond inner (Reaches s) (Fails 0x1082) ≡ access writes (Described s) address n
+    cond inner (Ok s) (Err OutOfBounds) ≡ access writes (Described s) address n
 reach_by s address n writes inner w e = rw (w, e)
 
 pub record Reached (writes : Bool) (found : Found) (address n : ℕ) (s : Space) : Type 0 where
@@ -28,18 +29,18 @@ pub record Reached (writes : Bool) (found : Found) (address n : ℕ) (s : Space)
   pub low : s.lowest ≤ address
   pub high : address + n ≤ s.highest + 1
 
-fails_not : (code : ℕ) (s : Space) → Fails code ≡ Reaches s → ⊥
-fails_not code s e = let z : ◌≡◌ {A = ℕ} 0 1 = cc in omega arith
+fails_not : (failure : Failure) (s : Space) → Err failure ≡ Ok s → ⊥
+fails_not failure s e = let z : ◌≡◌ {A = ℕ} 0 1 = cc in omega arith
 
-pub reached : (writes : Bool) (found : Found) (address n : ℕ) (s : Space) → access writes found address n ≡ Reaches s → Reached writes found address n s
+pub reached : (writes : Bool) (found : Found) (address n : ℕ) (s : Space) → access writes found address n ≡ Ok s → Reached writes found address n s
 reached writes (Described t) address n s e =
-    let p = cond-not (writes && t.read_only) e (fails_not 0x1083 s) in
+    let p = cond-not (writes && t.read_only) e (fails_not ReadOnlySpace s) in
     go (inside t address n) refl p.0 p.1
   where
-    go : (b : Bool) → inside t address n ≡ b → (writes && t.read_only) ≡ false → cond (inside t address n) (Reaches t) (Fails 0x1082) ≡ Reaches s →
+    go : (b : Bool) → inside t address n ≡ b → (writes && t.read_only) ≡ false → cond (inside t address n) (Ok t) (Err OutOfBounds) ≡ Ok s →
         Reached writes (Described t) address n s
     go true q r w =
-        let same : Reaches t ≡ Reaches s = rw q at w in
+        let same : Ok t ≡ Ok s = rw q at w in
         let x : t ≡ s = cc in
         rw (← x) (record {
           described = refl;
@@ -47,10 +48,10 @@ reached writes (Described t) address n s e =
           low = leb-true t.lowest address (and_left (leb t.lowest address) _ q);
           high = leb-true (address + n) (t.highest + 1) (and_right (leb t.lowest address) _ q);
         })
-    go false q r w = absurd (fails_not 0x1082 s (rw q at w))
+    go false q r w = absurd (fails_not OutOfBounds s (rw q at w))
 reached writes (Empty read_only) address n s e =
-    absurd (cond-elim (λ a. a ≡ Reaches s → ⊥) (writes && read_only) (λ _. fails_not 0x1083 s) (λ _. fails_not 0x1082 s) e)
-reached writes Unknown address n s e = absurd (fails_not 0x1081 s e)
+    absurd (cond-elim (λ a. a ≡ Ok s → ⊥) (writes && read_only) (λ _. fails_not ReadOnlySpace s) (λ _. fails_not OutOfBounds s) e)
+reached writes Unknown address n s e = absurd (fails_not UnknownSpace s e)
 
 -- a write that reaches a space of a good description fits into memory
 fits : (f m : ℕ) (found : Found) (address n : ℕ) (s : Space) → Reached true found address n s → FoundFine f m found → index_of s address + n ≤ m
@@ -65,11 +66,11 @@ writes-fit alias spaces f m number address n s g e =
 
 -- ---- what the code found, told apart
 
-module _ (spaces : List ℕ) (writes : Bool) (number address n : ℕ) {a : Access} (p : a ≡ access writes (find_space (spaces_in spaces) number) address n) where
-  pub told : {b : Access} → a ≡ b → access writes (find_space (spaces_in spaces) number) address n ≡ b
+module _ (spaces : List ℕ) (writes : Bool) (number address n : ℕ) {a : ReachResult} (p : a ≡ access writes (find_space (spaces_in spaces) number) address n) where
+  pub told : {b : ReachResult} → a ≡ b → access writes (find_space (spaces_in spaces) number) address n ≡ b
   told q = sym p ∙ q
 
-  pub low_told : {s : Space} → a ≡ Reaches s → s.lowest ≤ address
+  pub low_told : {s : Space} → a ≡ Ok s → s.lowest ≤ address
   low_told {s} q = (reached writes (find_space (spaces_in spaces) number) address n s (told q)).low
 
 -- ---- the end of a space

@@ -32,9 +32,7 @@ use Rattle.exec_lock.specs.Lock.{test_and_set, lock_after, all_zero}
 use Rattle.reply_spec.specs.ReplyForms.{no_text, no_address, lowest_address, Reply, information, reply_bytes, bit1, WellFormed}
 use Rattle.reply_datagram.specs.Replies.{read_reply, failed_read, failed_write, lock_reply, in_bytes}
 use Rattle.reply_datagram.specs.Inquiry.{options_reply, access_flag, absent_reply, information_reply}
-use Rattle.space_reach.specs.Reach.{access}
-use Rattle.space_reach.specs.declared.Access.{Access}
-use Rattle.space_reach.specs.declared.Access.TheVariants.{Fails, Reaches}
+use Rattle.space_reach.specs.Reach.{ReachResult, access}
 use Rattle.space_reach.proofs.Laws.{reached}
 use Rattle.reply_answer.specs.Answers.{code_of, received_ok_reply, transport_of}
 use Rattle.reply_answer.specs.declared.Answer.{Answer}
@@ -46,7 +44,7 @@ use Rattle.exec_spec.proofs.HandlingLaws.{perform-short}
 use Rattle.tool_read_spec.proofs.CompleteLaws.{complete}
 use Rattle.tool_meets_board_spec.specs.Meeting.{ReadBack, RepliesRead, content_of, Acknowledges, HalvesMeet}
 use Rattle.tool_meets_board_spec.proofs.NamingLaws.{Named, named}
-use Rattle.std.specs.Prelude.{Ok}
+use Rattle.std.specs.Prelude.{Ok, Err}
 
 -- a reply of the language is read as it is
 is_read : (y : Reply) → WellFormed y → length (reply_bytes y) ≤ 72 → ReadBack (received_ok_reply y)
@@ -64,17 +62,17 @@ some_bytes flash memory s address count f l h n =
     rw (length-take, length-drop, length-take, length-drop) (omega (arith, room))
 
 module _ (flash memory : List ℕ) (form : Form) (space address count : ℕ) (n : Names form space) (few : count ≤ 64) where
-  read-read : (a : Access) → Short (in_bytes (read_result flash memory form space address count a)) →
-      ((s : Space) → a ≡ Reaches s → 1 ≤ length (bytes_read flash memory s address count)) → ReadBack (read_result flash memory form space address count a)
+  read-read : (a : ReachResult) → Short (in_bytes (read_result flash memory form space address count a)) →
+      ((s : Space) → a ≡ Ok s → 1 ≤ length (bytes_read flash memory s address count)) → ReadBack (read_result flash memory form space address count a)
   unfolding read_result WellFormed
-  read-read (Fails code) h b = is_read (failed_read form space address code) (n, tt, omega arith) h
-  read-read (Reaches s) h b =
+  read-read (Err failure) h b = is_read (failed_read form space address _) (n, tt, omega arith) h
+  read-read (Ok s) h b =
       let most : length (bytes_read flash memory s address count) ≤ 64 = rw length-take (omega arith) in
       is_read (read_reply form space address (bytes_read flash memory s address count)) (n, b s refl, most) h
 
 -- what a read reaches
 read_some : (x : Fixed) (c : Contents) (space address count : ℕ) → description_check x.alias x.spaces (length x.flash) (length c.memory) ≡ Ok tt → 1 ≤ count →
-    (s : Space) → access false (found_in x space) address 1 ≡ Reaches s → 1 ≤ length (bytes_read x.flash c.memory s address count)
+    (s : Space) → access false (found_in x space) address 1 ≡ Ok s → 1 ≤ length (bytes_read x.flash c.memory s address count)
 read_some x c space address count g n s e =
     let r = reached false (found_in x space) address 1 s e in
     let f : Fine (length x.flash) (length c.memory) s = rw r.described at (good-find x.alias x.spaces (length x.flash) (length c.memory) space g) in
@@ -82,10 +80,10 @@ read_some x c space address count g n s e =
 
 -- ---- writes
 
-write_read : (form : Form) (space address n : ℕ) → Names form space → (a : Access) → Short (in_bytes (write_result form space address n a)) → ReadBack (write_result form space address n a)
+write_read : (form : Form) (space address n : ℕ) → Names form space → (a : ReachResult) → Short (in_bytes (write_result form space address n a)) → ReadBack (write_result form space address n a)
 unfolding write_result WellFormed
-write_read form space address n m (Fails code) h = is_read (failed_write form space address code) (m, tt, omega arith) h
-write_read form space address n m (Reaches s) h = tt
+write_read form space address n m (Err failure) h = is_read (failed_write form space address _) (m, tt, omega arith) h
+write_read form space address n m (Ok s) h = tt
 
 -- ---- space information
 

@@ -15,12 +15,12 @@ within : (pairs memory : List ℕ) (index : ℕ) →
     OnlyWithin index (length pairs / 2) memory (store_masked (pairs_of pairs) index memory)
 within pairs memory = rw (pairs-length pairs) at (pairs-within (pairs_of pairs) memory)
 
-pub returns-in-Fails : goal.returns-in-Fails
-returns-in-Fails c =
-    let a = sym c.reach.ensures ∙ c.in-Fails.is in
-    rw (pairs-length _) (write-fails _ _ _ _ _ _ a c.failed_write.ensures)
+pub returns-in-Err : goal.returns-in-Err
+returns-in-Err c =
+    let a = sym c.reach.ensures ∙ c.in-Err.is in
+    rw (pairs-length _) (write-fails _ _ _ _ _ _ a c.code_of.ensures c.failed_write.ensures)
 
-pub returns-in-Reaches : goal.returns-in-Reaches
-returns-in-Reaches c =
-    let a = sym c.reach.ensures ∙ c.in-Reaches.is in
+pub returns-in-Ok : goal.returns-in-Ok
+returns-in-Ok c =
+    let a = sym c.reach.ensures ∙ c.in-Ok.is in
     rw (pairs-length _) (write-reaches _ _ _ _ _ _ (within _ _) a c.index_of-index.ensures c.put_masked.ensures)
