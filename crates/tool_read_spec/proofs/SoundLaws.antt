@@ -24,7 +24,7 @@ use Rattle.tool_read_spec.proofs.TextLaws.{text-sound}
 
 -- a number that passes the test of a range is in it
 pub within-true : (low high c : ℕ) → within low high c ≡ true → (low ≤ c) × (c ≤ high)
-within-true low high c e = (leb-true low c (and_left (leb low c) _ e), leb-true c high (and_right (leb low c) _ e))
+within-true low high c e = grind arith
 
 two_first : (d : List ℕ) (i : ℕ) → i + 2 ≤ length d → drop i d ≡ get_or d i 0 ∷ get_or d (i + 1) 0 ∷ drop (i + 2) d
 two_first d i h =

@@ -30,6 +30,7 @@ pub fn rejection_into(rejection: Option<Rejection>, out: &mut [u8; 32])
     layout::put_rejection(fields::of_rejection(rejection), out);
 }
 
+#[tactic(auto, using(tool_result_spec::proofs::ApartLaws::told_apart))]
 pub fn reply_into(reply: Option<ReplyIn>, out: &mut [u8; 56])
     ensures fields { out.new ≡ reply_fields_bytes (fields_of_reply reply) }
     ensures apart { ToldApart }
