@@ -1,14 +1,14 @@
 -- Laws of the first bytes of a reply.
 -- Assumes nothing.
-use Prim.Native.Nat.{ℕ, ◌+◌, ◌≤◌, ◌<◌}
+use Prim.Native.Nat.{ℕ, ◌+◌, ◌≤◌}
 use mathlib.Core.Path.{◌≡◌, refl, sym, ◌∙◌}
 use mathlib.Core.List.{List, [], ◌∷◌, ◌++◌}
 use native.Mathlib.Omega.{arith}
-use lib.ListN.{length, set, length-append}
+use lib.ListN.{length, length-append}
 use lib.Dec.{leb}
 use Rattle.buffer.specs.Buffer.{over, placed}
 use Rattle.buffer.proofs.Choice.{cond-elim}
-use Rattle.buffer.proofs.Laws.{put_first, put_sets, placed-sets, put_nil, place-over}
+use Rattle.buffer.proofs.Laws.{put_nil, place-over}
 use Rattle.buffer.specs.BigEndian.{bytes_of}
 use Rattle.cmd_fields.specs.Commands.{with_form, space_byte, head_bytes}
 use Rattle.cmd_fields.specs.declared.Form.{Form}
@@ -18,14 +18,6 @@ use Rattle.cmd_fields.specs.declared.Form.TheVariants.{NoSpace, Byte6, Fd, Fe, F
 pub no_byte : (buffer : List ℕ) → buffer ≡ placed 6 [] buffer
 unfolding placed
 no_byte buffer = cond-elim (λ x. buffer ≡ x) (leb 6 (length buffer)) (λ _. sym (put_nil 6 buffer)) (λ _. refl)
-
-pub one_byte : (x : ℕ) (buffer : List ℕ) → 6 < length buffer → set buffer 6 x ≡ placed 6 (x ∷ []) buffer
-one_byte x buffer h = placed-sets 6 (x ∷ []) buffer (omega arith)
-
--- six stores
-pub six-stores : (a b c d e f : ℕ) (buffer : List ℕ) → 6 ≤ length buffer →
-    set (set (set (set (set (set buffer 0 a) 1 b) 2 c) 3 d) 4 e) 5 f ≡ over (a ∷ b ∷ c ∷ d ∷ e ∷ f ∷ []) buffer
-six-stores a b c d e f buffer h = put_sets 0 (a ∷ b ∷ c ∷ d ∷ e ∷ f ∷ []) buffer h ∙ put_first _ buffer
 
 space-length : (form : Form) (m : ℕ) → length (space_byte form m) ≡ length (space_byte form 0)
 space-length NoSpace m = refl

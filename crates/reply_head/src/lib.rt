@@ -11,16 +11,14 @@ ghost use Rattle.cmd_fields.specs.Commands.{space_byte, head_bytes};
 use cmd_fields::Form;
 use reply_answer::Answer;
 
-// How long the first bytes of a reply are.
+// How long the first bytes of a reply are. It always has an address, so that this is not `cmd_fields::head_length`, which
+// is 2 where a command has none.
 fn head_length(form: Form) -> usize
     ensures { (result ≡ 6 + length (space_byte form 0)) × (6 ≤ result) × (result ≤ 7) }
 {
     match form {
-        Form::NoSpace => 6,
         Form::Byte6 => 7,
-        Form::Fd => 6,
-        Form::Fe => 6,
-        Form::Ff => 6,
+        Form::NoSpace | Form::Fd | Form::Fe | Form::Ff => 6,
     }
 }
 
@@ -29,13 +27,9 @@ fn put_command(reply: &mut [u8], command: u8, address: u32)
     requires { 6 ≤ length reply.old }
     ensures { reply.new ≡ over (0x20 ∷ command ∷ bytes_of address) reply.old }
 {
-    let a = buffer::bytes(address);
     reply[0] = 0x20;
     reply[1] = command;
-    reply[2] = a[0];
-    reply[3] = a[1];
-    reply[4] = a[2];
-    reply[5] = a[3];
+    buffer::put(reply, 2, &buffer::bytes(address));
 }
 
 // The space byte, if the command had one.
@@ -43,15 +37,8 @@ fn put_space(reply: &mut [u8], form: Form, space: u8)
     ensures { reply.new ≡ placed 6 (space_byte form space) reply.old }
 {
     match form {
-        Form::NoSpace => {}
-        Form::Byte6 => {
-            if 6 < reply.len() {
-                reply[6] = space;
-            }
-        }
-        Form::Fd => {}
-        Form::Fe => {}
-        Form::Ff => {}
+        Form::Byte6 => buffer::put(reply, 6, &[space]),
+        Form::NoSpace | Form::Fd | Form::Fe | Form::Ff => {}
     }
 }
 
@@ -69,10 +56,7 @@ pub fn send(
         reply.new }
 {
     let n = head_length(form);
-    if reply.len() < n {
-        return Answer::Replied(0);
-    }
-    if reply.len() - n < src.len() {
+    if reply.len() < n || reply.len() - n < src.len() {
         return Answer::Replied(0);
     }
     put_command(reply, cmd_fields::with_form(command, form), address);

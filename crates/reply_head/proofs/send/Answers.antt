@@ -7,16 +7,15 @@ use lib.ListN.{length}
 use Rattle.reply_answer.proofs.AnswerLaws.{no_room, has_room}
 use Rattle.reply_head.proofs.HeadLaws.{reply-length, three_pieces}
 use Rattle.reply_head.proofs.send.Goals as goal
+use Rattle.reply_head.proofs.send.Goals.{then-reply-n-via-then-reply-n, then-reply-n-via-else-reply-n+then-reply-n-2}
 
 pub returns-then-reply-n : goal.returns-then-reply-n
 returns-then-reply-n c =
     let a = c.args in
-    no_room _ _ (omega (arith, reply-length a.command a.form a.space a.address _ a.src.now a.reply.now c.head_length-n.ensures.0))
-
-pub returns-then-reply-n-2 : goal.returns-then-reply-n-2
-returns-then-reply-n-2 c =
-    let a = c.args in
-    no_room _ _ (omega (arith, reply-length a.command a.form a.space a.address _ a.src.now a.reply.now c.head_length-n.ensures.0))
+    let long = reply-length a.command a.form a.space a.address _ a.src.now a.reply.now c.head_length-n.ensures.0 in
+    no_room _ _ (
+    elim c.then-reply-n.branch [ then-reply-n-via-then-reply-n w ↦ omega (arith, long) | then-reply-n-via-else-reply-n+then-reply-n-2 w ↦ omega (arith, long) ]
+    )
 
 pub returns : goal.returns
 returns c =
