@@ -18,20 +18,19 @@ pub fn read(reply: &mut [u8], form: Form, space: u8, address: u32, bytes: &[u8])
     reply_head::send(reply, 0x50, form, space, address, bytes)
 }
 
-// The reply to a read that failed.
+// The reply to a read that failed. (This and `failed_write` are each one call: the clauses of both say which of the two
+// failures of the definitions is sent.)
 pub fn failed_read(reply: &mut [u8], form: Form, space: u8, address: u32, code: u16) -> Answer
     ensures { Sends (failed_read form space address code) result reply.old reply.new }
 {
-    let bytes = [(code / 256) as u8, (code % 256) as u8];
-    reply_head::send(reply, 0x58, form, space, address, &bytes)
+    reply_head::send(reply, 0x58, form, space, address, &code.to_be_bytes())
 }
 
 // The reply to a write or a masked write that failed.
 pub fn failed_write(reply: &mut [u8], form: Form, space: u8, address: u32, code: u16) -> Answer
     ensures { Sends (failed_write form space address code) result reply.old reply.new }
 {
-    let bytes = [(code / 256) as u8, (code % 256) as u8];
-    reply_head::send(reply, 0x18, form, space, address, &bytes)
+    reply_head::send(reply, 0x18, form, space, address, &code.to_be_bytes())
 }
 
 // 0x88: the lock memory, which has six bytes.
@@ -57,10 +56,7 @@ pub fn options(out: &mut [u8], write_lengths: u8, spaces: &[u8]) -> Answer
 fn access_flag(space: Space) -> u8
     ensures { (result ≡ access_flag space) × (result ≤ 1) }
 {
-    if space.read_only {
-        return 1;
-    }
-    0
+    u8::from(space.read_only)
 }
 
 fn absent(out: &mut [u8], number: u8) -> Answer
@@ -102,14 +98,7 @@ pub fn information(out: &mut [u8], number: u8, found: Found) -> Answer
     ensures { Sends (information_reply number found) result out.old out.new }
 {
     match found {
-        Found::Described(space) => {
-            return present(out, number, space);
-        }
-        Found::Empty(_) => {
-            return absent(out, number);
-        }
-        Found::Unknown => {
-            return absent(out, number);
-        }
+        Found::Described(space) => present(out, number, space),
+        Found::Empty(_) | Found::Unknown => absent(out, number),
     }
 }
