@@ -2,12 +2,12 @@
 // tool undoes nothing that another tool has set in the same byte.
 #![tactic(auto)]
 
-ghost use Rattle.std.specs.Prelude.{◌≡◌, true, false, ◌≤◌, ◌*◌, length, take};
+ghost use Rattle.std.specs.Prelude.{◌≡◌, true, false, ◌≤◌, ◌<◌, ◌*◌, length, take, IfSome};
 ghost use Rattle.buffer.specs.Buffer.{over};
 ghost use Rattle.tool_write_spec.specs.Writing.{pair_bytes};
-ghost use Rattle.mask_diff_spec.specs.Differences.{difference, start_from, count_at, next_change};
+ghost use Rattle.mask_diff_spec.specs.Differences.{difference, up_to_last, next_change};
 ghost use Rattle.mask_diff_spec.specs.Writes.{AllUpdates};
-ghost use Rattle.mask_diff.specs.Changes.{Finds};
+ghost use Rattle.mask_diff.specs.Changes.{first_from, Finds};
 ghost use Rattle.mask_diff.specs.Numbers.{change_bytes, numbers_of, change_is};
 
 // The least room for pairs: that of the longest masked write.
@@ -16,48 +16,48 @@ const PAIRS_ROOM: usize = 64;
 // The most pairs of a masked write.
 const MOST_PAIRS: usize = 32;
 
-// The next masked write.
-#[derive(Drop)]
-pub enum NextChange {
-    // Refused: the images differ in length.
+// A masked write: the index of its first byte, and the number of its pairs.
+#[derive(Clone, Copy)]
+pub struct Change {
+    pub start: usize,
+    pub count: usize,
+}
+
+// Why none is looked for.
+#[derive(Clone, Copy)]
+pub enum DiffError {
+    // The images differ in length.
     LengthsDiffer,
-    // Refused: the buffer has no room for 32 pairs.
+    // The buffer has no room for 32 pairs.
     BufferTooShort,
-    // No byte differs at or after the index.
-    NoChange,
-    // The index of its first byte, and the number of its pairs.
-    ChangeAt { start: usize, count: usize },
 }
 
-// The index of the first byte that differs, at or after `from`; an index behind the images where there is none.
-fn first_change(old: &[u8], new: &[u8], from: usize) -> usize
+// The index of the first byte that differs, at or after `from`.
+fn first_change(old: &[u8], new: &[u8], from: usize) -> Option<usize>
     requires { length old.now ≡ length new.now }
-    ensures { result ≡ start_from from (difference old.now new.now) }
+    ensures first { result ≡ first_from from (difference old.now new.now) }
+    ensures inside { IfSome result (λ i. i < length old.now) }
 {
-    let mut i = from;
-    while i < old.len() {
-        if old[i] != new[i] {
-            return i;
-        }
-        i += 1;
-    }
-    i
+    let i = old
+        .get(from..)?
+        .iter()
+        .zip(new.get(from..)?)
+        .position(|(o, n)| o != n)?;
+    Some(from + i)
 }
 
-// How many of the bytes from `start` on, 32 at most, there are up to the last that differs.
-fn count_changes(old: &[u8], new: &[u8], start: usize) -> usize
-    requires { (length old.now ≡ length new.now) × (start ≤ length old.now) }
-    ensures { result ≡ count_at start (difference old.now new.now) }
+// How many bytes there are up to the last that differs: all but those at the end that are the same.
+fn count_changes(old: &[u8], new: &[u8]) -> usize
+    requires { length old.now ≡ length new.now }
+    ensures last { result ≡ up_to_last (difference old.now new.now) }
+    ensures inside { result ≤ length old.now }
 {
-    let left = old.len() - start;
-    let mut count = if left < MOST_PAIRS { left } else { MOST_PAIRS };
-    while 0 < count {
-        if old[start + count - 1] != new[start + count - 1] {
-            return count;
-        }
-        count -= 1;
-    }
-    0
+    let same = old
+        .iter()
+        .rev()
+        .zip(new.iter().rev())
+        .position(|(o, n)| o != n);
+    old.len() - same.unwrap_or(old.len())
 }
 
 // The pairs of two images, in front of a buffer.
@@ -65,90 +65,63 @@ fn put_changes(old: &[u8], new: &[u8], pairs: &mut [u8])
     requires { (length old.now ≡ length new.now) × (2 * length old.now ≤ length pairs.old) }
     ensures { pairs.new ≡ over (pair_bytes (difference old.now new.now)) pairs.old }
 {
-    let mut i = 0;
-    while i < old.len() {
+    // Not by `chunks_exact_mut`: of such a loan that is over, a proof knows the length alone.
+    for i in 0..old.len() {
         let mask = old[i] ^ new[i];
         pairs[2 * i] = mask;
         pairs[2 * i + 1] = new[i] & mask;
-        i += 1;
     }
 }
 
-// The next masked write at or after the index `from`, out of those that take the old image to the new one. Its pairs
-// are put in front of the lent buffer, each as a mask and then its data.
-pub fn next_change(old: &[u8], new: &[u8], from: usize, pairs: &mut [u8]) -> NextChange
+// The next masked write at or after the index `from`, out of those that take the old image to the new one; `None` where
+// no byte differs there. Its pairs are put in front of the lent buffer, each as a mask and then its data.
+#[tactic(auto, unfolding(mask_diff_spec::specs::Differences::next_change))]
+pub fn next_change(
+    old: &[u8],
+    new: &[u8],
+    from: usize,
+    pairs: &mut [u8],
+) -> Result<Option<Change>, DiffError>
     ensures finds { Finds (next_change old.now new.now from (length pairs.old)) result pairs.old pairs.new }
     ensures updates { AllUpdates }
 {
     if old.len() != new.len() {
-        return NextChange::LengthsDiffer;
+        return Err(DiffError::LengthsDiffer);
     }
     if pairs.len() < PAIRS_ROOM {
-        return NextChange::BufferTooShort;
+        return Err(DiffError::BufferTooShort);
     }
-    let start = first_change(old, new, from);
-    if old.len() <= start {
-        return NextChange::NoChange;
-    }
-    let count = count_changes(old, new, start);
+    let Some(start) = first_change(old, new, from) else {
+        return Ok(None);
+    };
+    let most = start + MOST_PAIRS.min(old.len() - start);
+    let count = count_changes(&old[start..most], &new[start..most]);
     let end = start + count;
     put_changes(&old[start..end], &new[start..end], pairs);
-    NextChange::ChangeAt {
-        start: start,
-        count: count,
-    }
+    Ok(Some(Change { start, count }))
 }
 
 // The numbers of an answer in the 24 bytes that a caller in C lends for them.
 fn put_numbers(refusal: u32, given: bool, start: usize, count: usize, change: &mut [u8; 24])
     ensures { change.new ≡ change_bytes refusal given start count }
 {
-    *change = [
-        (refusal % 256) as u8,
-        (refusal / 256 % 256) as u8,
-        (refusal / 65536 % 256) as u8,
-        (refusal / 16777216) as u8,
-        given as u8,
-        0,
-        0,
-        0,
-        (start % 256) as u8,
-        (start / 256 % 256) as u8,
-        (start / 65536 % 256) as u8,
-        (start / 16777216 % 256) as u8,
-        (start / 0x100000000 % 256) as u8,
-        (start / 0x10000000000 % 256) as u8,
-        (start / 0x1000000000000 % 256) as u8,
-        (start / 0x100000000000000) as u8,
-        (count % 256) as u8,
-        (count / 256 % 256) as u8,
-        (count / 65536 % 256) as u8,
-        (count / 16777216 % 256) as u8,
-        (count / 0x100000000 % 256) as u8,
-        (count / 0x10000000000 % 256) as u8,
-        (count / 0x1000000000000 % 256) as u8,
-        (count / 0x100000000000000) as u8,
-    ];
+    *change = [0; 24];
+    change[0..4].copy_from_slice(&refusal.to_le_bytes());
+    change[4] = given as u8;
+    change[8..16].copy_from_slice(&start.to_le_bytes());
+    change[16..24].copy_from_slice(&count.to_le_bytes());
 }
 
 // An answer as numbers for a caller in C: 1 for images that differ in length, 2 for a buffer that is too short, or 0;
 // whether there is a change; the index of its first byte and the number of its pairs. A number that the case does not
 // name is 0.
-pub fn put_change(next: NextChange, change: &mut [u8; 24])
+pub fn put_change(next: Result<Option<Change>, DiffError>, change: &mut [u8; 24])
     ensures { (change.new ≡ numbers_of next) × (change_is change.new ≡ next) }
 {
     match next {
-        NextChange::LengthsDiffer => {
-            put_numbers(1, false, 0, 0, change);
-        }
-        NextChange::BufferTooShort => {
-            put_numbers(2, false, 0, 0, change);
-        }
-        NextChange::NoChange => {
-            put_numbers(0, false, 0, 0, change);
-        }
-        NextChange::ChangeAt { start, count } => {
-            put_numbers(0, true, start, count, change);
-        }
+        Err(DiffError::LengthsDiffer) => put_numbers(1, false, 0, 0, change),
+        Err(DiffError::BufferTooShort) => put_numbers(2, false, 0, 0, change),
+        Ok(None) => put_numbers(0, false, 0, 0, change),
+        Ok(Some(Change { start, count })) => put_numbers(0, true, start, count, change),
     }
 }
