@@ -165,32 +165,11 @@ pub extern "C" fn bujorelm_read_reply(datagram: &[u8], reply: &mut [u8; 56])
 fn put_joined(kind: u32, code: u16, start: usize, end: usize, joined: &mut [u8; 24])
     ensures { joined.new ≡ joined_bytes kind code start end }
 {
-    *joined = [
-        (kind % 256) as u8,
-        (kind / 256 % 256) as u8,
-        (kind / 65536 % 256) as u8,
-        (kind / 16777216) as u8,
-        (code % 256) as u8,
-        (code / 256) as u8,
-        0,
-        0,
-        (start % 256) as u8,
-        (start / 256 % 256) as u8,
-        (start / 65536 % 256) as u8,
-        (start / 16777216 % 256) as u8,
-        (start / 0x100000000 % 256) as u8,
-        (start / 0x10000000000 % 256) as u8,
-        (start / 0x1000000000000 % 256) as u8,
-        (start / 0x100000000000000) as u8,
-        (end % 256) as u8,
-        (end / 256 % 256) as u8,
-        (end / 65536 % 256) as u8,
-        (end / 16777216 % 256) as u8,
-        (end / 0x100000000 % 256) as u8,
-        (end / 0x10000000000 % 256) as u8,
-        (end / 0x1000000000000 % 256) as u8,
-        (end / 0x100000000000000) as u8,
-    ];
+    *joined = [0; 24];
+    joined[0..4].copy_from_slice(&kind.to_le_bytes());
+    joined[4..6].copy_from_slice(&code.to_le_bytes());
+    joined[8..16].copy_from_slice(&start.to_le_bytes());
+    joined[16..24].copy_from_slice(&end.to_le_bytes());
 }
 
 // The kinds: 0 an error of the caller, which is B7, 1 ignored, 2 joined or swallowed, 3 refused with `code`, 4 a
@@ -200,24 +179,12 @@ fn put_outcome(outcome: JoinResult, joined: &mut [u8; 24])
     ensures { joined.new ≡ joined_of outcome }
 {
     match outcome {
-        JoinResult::Refused(_) => {
-            put_joined(0, 0, 0, 0, joined);
-        }
-        JoinResult::Ignored => {
-            put_joined(1, 0, 0, 0, joined);
-        }
-        JoinResult::NoAnswer => {
-            put_joined(2, 0, 0, 0, joined);
-        }
-        JoinResult::TransportRefusal(code) => {
-            put_joined(3, code, 0, 0, joined);
-        }
-        JoinResult::InFrame => {
-            put_joined(4, 0, 0, 0, joined);
-        }
-        JoinResult::InPool(from, end) => {
-            put_joined(5, 0, from, end, joined);
-        }
+        JoinResult::Refused(_) => put_joined(0, 0, 0, 0, joined),
+        JoinResult::Ignored => put_joined(1, 0, 0, 0, joined),
+        JoinResult::NoAnswer => put_joined(2, 0, 0, 0, joined),
+        JoinResult::TransportRefusal(code) => put_joined(3, code, 0, 0, joined),
+        JoinResult::InFrame => put_joined(4, 0, 0, 0, joined),
+        JoinResult::InPool(from, end) => put_joined(5, 0, from, end, joined),
     }
 }
 
