@@ -46,8 +46,9 @@ pub fn written(datagram: &[u8]) -> Option<ReplyIn>
 }
 
 // A read, a write or a masked write that failed: a code behind the head, and behind it a message of at most 63 bytes,
-// or none.
+// or none. It is called twice: inlined, its result does not go over the stack.
 #[tactic(auto, unfolding(tool_read_spec::specs::Finding::failure_fits))]
+#[inline(always)]
 pub fn failure(datagram: &[u8]) -> Option<Failure>
     ensures { result ≡ cond (failure_fits datagram.now) (Some (failure_in datagram.now)) None }
 {

@@ -149,17 +149,15 @@ fn information(information: Information) -> ReplyFields
 pub fn of_reply(reply: Option<ReplyIn>) -> ReplyFields
     ensures { result ≡ fields_of_reply reply }
 {
-    let Some(reply) = reply else {
-        return ReplyFields::default();
-    };
     match reply {
-        ReplyIn::Read { target, data } => access(1, target, 0, Some(data)),
-        ReplyIn::ReadFailure(failure) => access(2, failure.target, failure.code, failure.message),
-        ReplyIn::WriteDone(target) => access(3, target, 0, None),
-        ReplyIn::WriteFailure(failure) => access(4, failure.target, failure.code, failure.message),
-        ReplyIn::Options(given) => options(given),
-        ReplyIn::Information(given) => information(given),
-        ReplyIn::Locked(id) => ReplyFields {
+        None => ReplyFields::default(),
+        Some(ReplyIn::Read { target, data }) => access(1, target, 0, Some(data)),
+        Some(ReplyIn::ReadFailure(given)) => access(2, given.target, given.code, given.message),
+        Some(ReplyIn::WriteDone(target)) => access(3, target, 0, None),
+        Some(ReplyIn::WriteFailure(given)) => access(4, given.target, given.code, given.message),
+        Some(ReplyIn::Options(given)) => options(given),
+        Some(ReplyIn::Information(given)) => information(given),
+        Some(ReplyIn::Locked(id)) => ReplyFields {
             kind: 7,
             bytes: range(Some(id)),
             ..ReplyFields::default()
