@@ -2,68 +2,52 @@
 -- Assumes nothing.
 use Prim.Native.Nat.{ℕ}
 use mathlib.Core.Path.{◌≡◌, refl, sym, ap, subst, ◌∙◌}
-use mathlib.Core.Bool.{Bool, true, false}
 use mathlib.Core.List.{List}
 use Rattle.buffer.specs.LittleEndian.{number_in}
-use Rattle.buffer.proofs.Choice.{clash}
 use Rattle.buffer.proofs.LeastLaws.{two_back, eight-back}
-use Rattle.call_error.specs.CallErrors.{or_else, Checked}
+use Rattle.call_error.specs.CallErrors.{OrError, or_else, Checked}
 use Rattle.call_error.specs.declared.CallError.TheVariants.{B7BadReceptionState}
-use Rattle.rx_spec.specs.Books.{Event}
 use Rattle.rx_place_spec.specs.State.{State}
 use Rattle.rx_spec.specs.Reception.{Joined}
-use Rattle.rx_join_spec.specs.declared.JoinResult.{JoinResult}
-use Rattle.rx_join_spec.specs.declared.JoinResult.TheVariants as outcome
+use Rattle.rx_join_spec.specs.declared.Outcome.{Outcome}
+use Rattle.rx_join_spec.specs.declared.Outcome.TheVariants as outcome
 use Rattle.rx_join_spec.specs.StateCheck.{state_check}
-use Rattle.rx_join_spec.specs.Joins.{CallEvent, refused_by, brings, event_of, JoinEnds}
+use Rattle.rx_join_spec.specs.Joins.{JoinEnds}
 use Rattle.rx_join_spec.proofs.CheckLaws.{only-b7}
 use Rattle.bujorelm_tool.specs.Joining.{joined_of, outcome_is}
-use Rattle.std.specs.Prelude.{Ok, Err}
+use Rattle.std.specs.Prelude.{Ok, Err, IsOkAnd}
 
 -- ---- no error but B7
 
-abbrev OnlyB7 : JoinResult → Type 0
-OnlyB7 (outcome.Refused error) = error ≡ B7BadReceptionState
-OnlyB7 outcome.Ignored = Unit {0}
-OnlyB7 outcome.NoAnswer = Unit {0}
-OnlyB7 (outcome.TransportRefusal code) = Unit {0}
-OnlyB7 outcome.InFrame = Unit {0}
-OnlyB7 (outcome.InPool from end) = Unit {0}
+abbrev OnlyB7 : OrError Outcome → Type 0
+OnlyB7 (Err error) = error ≡ B7BadReceptionState
+OnlyB7 (Ok done) = Unit {0}
 
-outcome-back : (o : JoinResult) → OnlyB7 o → outcome_is (joined_of o) ≡ o
+outcome-back : (o : OrError Outcome) → OnlyB7 o → outcome_is (joined_of o) ≡ o
 unfolding number_in
-outcome-back (outcome.Refused error) b = ap outcome.Refused (sym b)
-outcome-back outcome.Ignored b = refl
-outcome-back outcome.NoAnswer b = refl
-outcome-back (outcome.TransportRefusal code) b = ap outcome.TransportRefusal (two_back code)
-outcome-back outcome.InFrame b = refl
-outcome-back (outcome.InPool from end) b = rw (eight-back from, eight-back end)
+outcome-back (Err error) b = ap Err (sym b)
+outcome-back (Ok outcome.Ignored) b = refl
+outcome-back (Ok outcome.NoAnswer) b = refl
+outcome-back (Ok (outcome.TransportRefusal code)) b = ap (λ (n : ℕ). Ok (outcome.TransportRefusal n)) (two_back code)
+outcome-back (Ok outcome.InFrame) b = refl
+outcome-back (Ok (outcome.InPool from end)) b = rw (eight-back from, eight-back end)
 
 -- a frame that is joined is not refused
-refuses : CallEvent → Bool
-refuses (refused_by error) = true
-refuses (brings e) = false
-
-joined-passes : (o : JoinResult) {e : Event} (d bytes : List ℕ) → event_of o d bytes ≡ brings e → OnlyB7 o
-unfolding refuses
-joined-passes (outcome.Refused error) d bytes q = clash (ap refuses q)
-joined-passes outcome.Ignored d bytes q = tt
-joined-passes outcome.NoAnswer d bytes q = tt
-joined-passes (outcome.TransportRefusal code) d bytes q = tt
-joined-passes outcome.InFrame d bytes q = tt
-joined-passes (outcome.InPool from end) d bytes q = tt
+joined-passes : (o : OrError Outcome) (P : Outcome → Type 0) → IsOkAnd o P → OnlyB7 o
+joined-passes (Ok done) P n = tt
+joined-passes (Err error) P n = absurd n
 
 nothing-later : (c : Checked) → or_else c (Ok tt) ≡ c
 nothing-later (Ok u) = refl
 nothing-later (Err error) = refl
 
-module _ (st : State) (j : Joined) {d : List ℕ} {o : JoinResult} {before after pool bytes : List ℕ}
+module _ (st : State) (j : Joined) {d : List ℕ} {o : OrError Outcome} {before after pool bytes : List ℕ}
     (ends : JoinEnds (or_else (state_check st) (Ok tt)) j d o before after pool bytes) where
   refused_b7 : OnlyB7 o
   refused_b7 = go (or_else (state_check st) (Ok tt)) refl
     where
       go : (c : Checked) → or_else (state_check st) (Ok tt) ≡ c → OnlyB7 o
-      go (Ok u) e = joined-passes o d bytes (ends.joins e).event
+      go (Ok u) e = joined-passes o _ (ends.joins e)
       go (Err error) e = rw (ends.refuses error e).result (only-b7 st e)
 
   pub outcome-stored : {joined : List ℕ} → joined ≡ joined_of o →

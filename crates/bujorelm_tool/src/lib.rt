@@ -3,7 +3,7 @@
 // a pointer and then a length, an array of a fixed length is a pointer.
 #![tactic(auto)]
 
-ghost use Rattle.std.specs.Prelude.{◌≡◌, true, ◌%◌, eqb, length};
+ghost use Rattle.std.specs.Prelude.{◌≡◌, true, ◌%◌, eqb, length, IfOk};
 ghost use Rattle.can_frame.specs.Frame.{can_frame, source_of, role_of};
 ghost use Rattle.cmd_fields.specs.Commands.{read, write, write_masked, options, information, reserve, update_complete, pairs_of};
 ghost use Rattle.rx_place_spec.specs.Ticks.{drop_due};
@@ -26,7 +26,8 @@ ghost use Rattle.mask_diff.specs.Numbers.{numbers_of, change_is};
 ghost use Rattle.bujorelm_tool.specs.Composing.{Composes};
 ghost use Rattle.bujorelm_tool.specs.Joining.{joined_bytes, joined_of, outcome_is};
 
-use rx_join_spec::JoinResult;
+use call_error::CallError;
+use rx_join_spec::Outcome;
 use tool_write_spec::WriteError;
 
 // The version of this edge, major in the upper 16 bits and minor in the lower: a header of the same major and of no
@@ -175,16 +176,16 @@ fn put_joined(kind: u32, code: u16, start: usize, end: usize, joined: &mut [u8; 
 // The kinds: 0 an error of the caller, which is B7, 1 ignored, 2 joined or swallowed, 3 refused with `code`, 4 a
 // datagram that is the frame's data, 5 a datagram that is the part of the pool from `start` up to `end`. A number that
 // its kind does not name is 0.
-fn put_outcome(outcome: JoinResult, joined: &mut [u8; 24])
+fn put_outcome(outcome: Result<Outcome, CallError>, joined: &mut [u8; 24])
     ensures { joined.new ≡ joined_of outcome }
 {
     match outcome {
-        JoinResult::Refused(_) => put_joined(0, 0, 0, 0, joined),
-        JoinResult::Ignored => put_joined(1, 0, 0, 0, joined),
-        JoinResult::NoAnswer => put_joined(2, 0, 0, 0, joined),
-        JoinResult::TransportRefusal(code) => put_joined(3, code, 0, 0, joined),
-        JoinResult::InFrame => put_joined(4, 0, 0, 0, joined),
-        JoinResult::InPool(from, end) => put_joined(5, 0, from, end, joined),
+        Err(_) => put_joined(0, 0, 0, 0, joined),
+        Ok(Outcome::Ignored) => put_joined(1, 0, 0, 0, joined),
+        Ok(Outcome::NoAnswer) => put_joined(2, 0, 0, 0, joined),
+        Ok(Outcome::TransportRefusal(code)) => put_joined(3, code, 0, 0, joined),
+        Ok(Outcome::InFrame) => put_joined(4, 0, 0, 0, joined),
+        Ok(Outcome::InPool(from, end)) => put_joined(5, 0, from, end, joined),
     }
 }
 
@@ -201,8 +202,8 @@ pub extern "C" fn bujorelm_join(
     ensures ends { JoinEnds (state_check (state_before places pool))
         (receive alias 0 (state_before places pool) (can_frame header payload.now)) payload.now
         (outcome_is joined.new) places.old places.new pool.old pool.new }
-    ensures lies { Lies (role_of alias header (length payload.now))
-        (place_of (source_of header) (drop_due 0 (places_in places.old))) (outcome_is joined.new) }
+    ensures lies { IfOk (outcome_is joined.new) (Lies (role_of alias header (length payload.now))
+        (place_of (source_of header) (drop_due 0 (places_in places.old)))) }
     ensures numbers { joined.new ≡ joined_of (outcome_is joined.new) }
 {
     let outcome = rx_join::join(pool, places, alias, 0, header, payload, Ok(()));

@@ -33,9 +33,13 @@ refusal_of B7BadReceptionState = refusal 7 None
 
 -- ---- checks
 
+-- What comes of a call: an error of the caller, or what the call is for.
+abbrev pub OrError : Type 0 → Type 0
+OrError A = Result A CallError
+
 -- What a check finds: nothing, or the first error that applies.
 abbrev pub Checked : Type 0
-Checked = Result (Unit {0}) CallError
+Checked = OrError (Unit {0})
 
 abbrev pub passes : Checked → Bool
 passes (Ok u) = true

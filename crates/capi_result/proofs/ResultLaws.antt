@@ -1,5 +1,7 @@
 -- Laws of a call's numbers: those of a call have room in their bytes, and memory changed nowhere but in the range that they name.
 -- Assumes nothing.
+use Rattle.std.specs.Prelude.{Ok, Err}
+use Rattle.call_error.specs.CallErrors.{OrError}
 use Prim.Native.Nat.{ℕ, ◌≤◌, min}
 use mathlib.Core.Path.{◌≡◌, refl, ap, subst, ◌∙◌}
 use mathlib.Core.List.{List}
@@ -10,8 +12,6 @@ use Rattle.reply_answer.specs.Answers.{code_of, SmallAnswer}
 use Rattle.reply_answer.specs.declared.Answer.{Answer}
 use Rattle.reply_answer.specs.declared.Answer.TheVariants as answer
 use Rattle.node_spec.specs.DatagramCall.{SmallHandled, HandledChanges}
-use Rattle.node_spec.specs.declared.Handled.{Handled}
-use Rattle.node_spec.specs.declared.Handled.TheVariants as handled
 use Rattle.node_spec.specs.FrameCall.{SmallFrame, FrameChanges}
 use Rattle.node_spec.specs.declared.FrameAnswer.{FrameAnswer}
 use Rattle.node_spec.specs.declared.FrameAnswer.TheVariants as frame
@@ -35,16 +35,16 @@ answer-room (answer.Written index n) frames s h = has_room 5 0 no_position 0 0 i
 answer-room answer.UpdateComplete frames s h = has_room 7 0 no_position 0 0 0 0 0 frames (omega arith) (omega arith) (omega arith) h
 answer-room (answer.Replied n) frames s h = has_room 6 0 no_position 0x80 0 0 0 n frames (omega arith) (omega arith) s h
 
-handled-room : (r : Handled) → SmallHandled r → in_bytes (handled_numbers r) ≡ handled_numbers r
-handled-room (handled.Refused error) s = refl
-handled-room (handled.Answered a) s = answer-room a 0 s (omega arith)
+handled-room : (r : OrError Answer) → SmallHandled r → in_bytes (handled_numbers r) ≡ handled_numbers r
+handled-room (Err error) s = refl
+handled-room (Ok a) s = answer-room a 0 s (omega arith)
 
-frame-room : (r : FrameAnswer) (frames : ℕ) → SmallFrame r → frames ≤ 10 → in_bytes (frame_numbers r frames) ≡ frame_numbers r frames
-frame-room (frame.Refused error) frames s h = has_room 0 _ _ 0 0 0 0 0 frames (omega arith) (omega arith) (omega arith) h
-frame-room frame.Ignored frames s h = has_room 1 0 no_position 0 0 0 0 0 frames (omega arith) (omega arith) (omega arith) h
-frame-room frame.Nothing frames s h = has_room 2 0 no_position 0 0 0 0 0 frames (omega arith) (omega arith) (omega arith) h
-frame-room (frame.TransportRefusal code) frames s h = has_room 3 0 no_position 0 code 0 0 0 frames (omega arith) (omega arith) (omega arith) h
-frame-room (frame.Answered a) frames s h = answer-room a frames s h
+frame-room : (r : OrError FrameAnswer) (frames : ℕ) → SmallFrame r → frames ≤ 10 → in_bytes (frame_numbers r frames) ≡ frame_numbers r frames
+frame-room (Err error) frames s h = has_room 0 _ _ 0 0 0 0 0 frames (omega arith) (omega arith) (omega arith) h
+frame-room (Ok frame.Ignored) frames s h = has_room 1 0 no_position 0 0 0 0 0 frames (omega arith) (omega arith) (omega arith) h
+frame-room (Ok frame.Nothing) frames s h = has_room 2 0 no_position 0 0 0 0 0 frames (omega arith) (omega arith) (omega arith) h
+frame-room (Ok (frame.TransportRefusal code)) frames s h = has_room 3 0 no_position 0 code 0 0 0 frames (omega arith) (omega arith) (omega arith) h
+frame-room (Ok (frame.Answered a)) frames s h = answer-room a frames s h
 
 -- ---- what changed
 
@@ -59,33 +59,33 @@ module _ (old new : List ℕ) where
   answer-within answer.UpdateComplete frames e = none-changed e
   answer-within (answer.Replied n) frames e = none-changed e
 
-  handled-within : (r : Handled) → HandledChanges r old new → OnlyWithin (handled_numbers r).changed_at (handled_numbers r).changed_len old new
-  handled-within (handled.Refused error) e = none-changed e
-  handled-within (handled.Answered a) e = answer-within a 0 e
+  handled-within : (r : OrError Answer) → HandledChanges r old new → OnlyWithin (handled_numbers r).changed_at (handled_numbers r).changed_len old new
+  handled-within (Err error) e = none-changed e
+  handled-within (Ok a) e = answer-within a 0 e
 
-  frame-within : (r : FrameAnswer) (frames : ℕ) → FrameChanges r old new → OnlyWithin (frame_numbers r frames).changed_at (frame_numbers r frames).changed_len old new
-  frame-within (frame.Refused error) frames e = none-changed e
-  frame-within frame.Ignored frames e = none-changed e
-  frame-within frame.Nothing frames e = none-changed e
-  frame-within (frame.TransportRefusal code) frames e = none-changed e
-  frame-within (frame.Answered a) frames e = answer-within a frames e
+  frame-within : (r : OrError FrameAnswer) (frames : ℕ) → FrameChanges r old new → OnlyWithin (frame_numbers r frames).changed_at (frame_numbers r frames).changed_len old new
+  frame-within (Err error) frames e = none-changed e
+  frame-within (Ok frame.Ignored) frames e = none-changed e
+  frame-within (Ok frame.Nothing) frames e = none-changed e
+  frame-within (Ok (frame.TransportRefusal code)) frames e = none-changed e
+  frame-within (Ok (frame.Answered a)) frames e = answer-within a frames e
 
 -- ---- what the code gives is what its answer was proved to be
 
-module _ {r h : Handled} (same : r ≡ h) where
+module _ {r h : OrError Answer} (same : r ≡ h) where
   pub handled-told : {bytes : List ℕ} → bytes ≡ result_bytes (in_bytes (handled_numbers r)) → SmallHandled r → bytes ≡ result_bytes (handled_numbers h)
-  handled-told e small = e ∙ ap result_bytes (handled-room r small) ∙ ap (λ (x : Handled). result_bytes (handled_numbers x)) same
+  handled-told e small = e ∙ ap result_bytes (handled-room r small) ∙ ap (λ (x : OrError Answer). result_bytes (handled_numbers x)) same
 
   pub handled-range : (old new : List ℕ) → HandledChanges r old new → OnlyWithin (handled_numbers h).changed_at (handled_numbers h).changed_len old new
-  handled-range old new q = subst (λ (x : Handled). OnlyWithin (handled_numbers x).changed_at (handled_numbers x).changed_len old new) same (handled-within old new r q)
+  handled-range old new q = subst (λ (x : OrError Answer). OnlyWithin (handled_numbers x).changed_at (handled_numbers x).changed_len old new) same (handled-within old new r q)
 
-module _ {r a : FrameAnswer} {n frames : ℕ} (same : r ≡ a) (count : n ≡ frames) where
+module _ {r a : OrError FrameAnswer} {n frames : ℕ} (same : r ≡ a) (count : n ≡ frames) where
   pub frame-told : {bytes : List ℕ} → bytes ≡ result_bytes (in_bytes (frame_numbers r n)) → SmallFrame r → n ≤ 10 → bytes ≡ result_bytes (frame_numbers a frames)
   frame-told e small few =
       e
       ∙ ap result_bytes (frame-room r n small few)
-      ∙ ap (λ (x : FrameAnswer). result_bytes (frame_numbers x n)) same
+      ∙ ap (λ (x : OrError FrameAnswer). result_bytes (frame_numbers x n)) same
       ∙ ap (λ (k : ℕ). result_bytes (frame_numbers a k)) count
 
   pub frame-range : (old new : List ℕ) → FrameChanges r old new → OnlyWithin (frame_numbers a frames).changed_at (frame_numbers a frames).changed_len old new
-  frame-range old new q = subst (λ (x : FrameAnswer). OnlyWithin (frame_numbers x frames).changed_at (frame_numbers x frames).changed_len old new) same (frame-within old new r frames q)
+  frame-range old new q = subst (λ (x : OrError FrameAnswer). OnlyWithin (frame_numbers x frames).changed_at (frame_numbers x frames).changed_len old new) same (frame-within old new r frames q)

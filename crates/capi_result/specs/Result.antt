@@ -1,12 +1,10 @@
 -- What comes of a call as numbers, for a caller in C.
-use Rattle.std.specs.Prelude.{ℕ, Option, Some, None}
-use Rattle.call_error.specs.CallErrors.{refusal_of}
+use Rattle.std.specs.Prelude.{ℕ, Option, Some, None, Ok, Err}
+use Rattle.call_error.specs.CallErrors.{refusal_of, OrError}
 use Rattle.call_error.specs.declared.CallError.{CallError}
 use Rattle.reply_answer.specs.Answers.{code_of}
 use Rattle.reply_answer.specs.declared.Answer.{Answer}
 use Rattle.reply_answer.specs.declared.Answer.TheVariants as answer
-use Rattle.node_spec.specs.declared.Handled.{Handled}
-use Rattle.node_spec.specs.declared.Handled.TheVariants as handled
 use Rattle.node_spec.specs.declared.FrameAnswer.{FrameAnswer}
 use Rattle.node_spec.specs.declared.FrameAnswer.TheVariants as frame
 use Rattle.capi_numbers.specs.Numbers.{kind_ignored, kind_joined, kind_transport_refusal, kind_rejected, kind_written, kind_replied, kind_update_complete, no_position, refusal_numbers, numbers}
@@ -30,13 +28,13 @@ answer_numbers (answer.Replied n) frames = numbers kind_replied 0x80 0 0 0 n fra
 answer_numbers answer.UpdateComplete frames = numbers kind_update_complete 0x00 0 0 0 0 frames
 
 -- The call for a whole datagram makes no frames.
-abbrev pub handled_numbers : Handled → CallResult
-handled_numbers (handled.Refused error) = error_numbers error 0
-handled_numbers (handled.Answered a) = answer_numbers a 0
+abbrev pub handled_numbers : OrError Answer → CallResult
+handled_numbers (Err error) = error_numbers error 0
+handled_numbers (Ok a) = answer_numbers a 0
 
-abbrev pub frame_numbers : FrameAnswer → ℕ → CallResult
-frame_numbers (frame.Refused error) frames = error_numbers error frames
-frame_numbers frame.Ignored frames = numbers kind_ignored 0 0 0 0 0 frames
-frame_numbers frame.Nothing frames = numbers kind_joined 0 0 0 0 0 frames
-frame_numbers (frame.TransportRefusal code) frames = numbers kind_transport_refusal 0 code 0 0 0 frames
-frame_numbers (frame.Answered a) frames = answer_numbers a frames
+abbrev pub frame_numbers : OrError FrameAnswer → ℕ → CallResult
+frame_numbers (Err error) frames = error_numbers error frames
+frame_numbers (Ok frame.Ignored) frames = numbers kind_ignored 0 0 0 0 0 frames
+frame_numbers (Ok frame.Nothing) frames = numbers kind_joined 0 0 0 0 0 frames
+frame_numbers (Ok (frame.TransportRefusal code)) frames = numbers kind_transport_refusal 0 code 0 0 0 frames
+frame_numbers (Ok (frame.Answered a)) frames = answer_numbers a frames

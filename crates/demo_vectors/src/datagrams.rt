@@ -2,8 +2,8 @@
 use crate::boards::Refusal;
 use crate::bytes::Hex;
 use crate::lines::digit_value;
+use call_error::CallError;
 use exec_registers::Registers;
-use node_spec::Handled;
 use reply_answer::Answer;
 use std::{fmt, io};
 
@@ -48,15 +48,15 @@ impl Setup {
 // What came of a datagram, with the reply buffer afterwards.
 #[derive(Drop)]
 struct Outcome<'a> {
-    handled: Handled,
+    handled: Result<Answer, CallError>,
     reply: &'a [u8],
 }
 
 impl fmt::Display for Outcome<'_> {
     fn fmt<W: fmt::Write>(&self, f: &mut fmt::Formatter<W>) -> fmt::Result {
         match self.handled {
-            Handled::Refused(error) => write!(f, "{}", Refusal(error)),
-            Handled::Answered(answer) => write_answer(f, answer, self.reply),
+            Err(error) => write!(f, "{}", Refusal(error)),
+            Ok(answer) => write_answer(f, answer, self.reply),
         }
     }
 }
@@ -111,7 +111,7 @@ fn handle(
     memory: &mut [u8],
     registers: &mut Registers,
     reply: &mut [u8],
-) -> Handled {
+) -> Result<Answer, CallError> {
     let table = demo_board::table_bytes();
     let described = table.len().min(16 * count as usize);
     node_call::handle_datagram(

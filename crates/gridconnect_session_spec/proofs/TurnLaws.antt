@@ -1,5 +1,6 @@
 -- Laws of a line answered.
 -- Assumes nothing.
+use Rattle.call_error.specs.CallErrors.{OrError}
 use Prim.Native.Nat.{ℕ, ◌+◌, ◌≤◌, ◌<◌, min}
 use mathlib.Core.Path.{◌≡◌, refl, sym}
 use mathlib.Core.List.{List}
@@ -49,7 +50,7 @@ module _ (x : Fixed) (st : State) (c : Contents) (at : ℕ) (out : List ℕ) (ro
     unfolding answer_line
     line-is = rw e
 
-    pub line-handled : {answer : FrameAnswer} {reply places places' pool before made : List ℕ} {left : Contents} {count r : ℕ} {after : List ℕ}
+    pub line-handled : {answer : OrError FrameAnswer} {reply places places' pool before made : List ℕ} {left : Contents} {count r : ℕ} {after : List ℕ}
         → Answers call answer (replicate 72 0) reply left
         → Keeps call places places' pool
         → Made sent count before made

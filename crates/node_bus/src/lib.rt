@@ -4,13 +4,14 @@
 ghost use Rattle.exec_spec.specs.LentBoard.{board_of};
 ghost use Rattle.node_send.specs.Sending.{BusEnds, BusOrder};
 
+use call_error::CallError;
 use exec_registers::Registers;
 use node_spec::FrameAnswer;
 
 // What comes of a frame, and the number of frames to send.
 #[derive(Drop)]
 pub struct Sent {
-    pub answer: FrameAnswer,
+    pub answer: Result<FrameAnswer, CallError>,
     pub count: usize,
 }
 
@@ -50,8 +51,5 @@ pub fn answer_frame(
     );
     let tool = can_frame::source_of(header);
     let count = node_send::frames_to_send(answer, &reply[..], alias, tool, frames);
-    Sent {
-        answer: answer,
-        count: count,
-    }
+    Sent { answer, count }
 }

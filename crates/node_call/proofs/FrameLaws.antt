@@ -3,7 +3,7 @@
 use Prim.Native.Nat.{ℕ, ◌≤◌}
 use mathlib.Core.Path.{◌≡◌, refl, sym, ap, ◌∙◌}
 use mathlib.Core.List.{List}
-use Rattle.call_error.specs.CallErrors.{or_else, Checked}
+use Rattle.call_error.specs.CallErrors.{or_else, Checked, OrError}
 use Rattle.call_error.specs.declared.CallError.{CallError}
 use Rattle.can_frame.specs.Frame.{CanFrame}
 use Rattle.rx_place_spec.specs.State.{State}
@@ -14,8 +14,9 @@ use Rattle.rx_place_spec.proofs.ByteLaws.{renewed-same}
 use Rattle.rx_spec.proofs.InputLaws.{answered-state}
 use Rattle.rx_join_spec.specs.StateCheck.{state_check}
 use Rattle.rx_join_spec.specs.Joins.{CallEvent, event_of, InsidePool, JoinEnds}
-use Rattle.rx_join_spec.specs.declared.JoinResult.{JoinResult}
-use Rattle.rx_join_spec.specs.declared.JoinResult.TheVariants as outcome
+use Rattle.rx_join_spec.specs.declared.Outcome.{Outcome}
+use Rattle.rx_join_spec.specs.declared.Outcome.TheVariants as outcome
+use Rattle.rx_join_spec.proofs.CheckLaws.{joined-done}
 use Rattle.reply_answer.specs.Answers.{Result}
 use Rattle.exec_spec.specs.Handling.{Fixed, Contents}
 use Rattle.node_spec.specs.CallerErrors.{earlier_check, later_check, frame_check}
@@ -25,7 +26,7 @@ use Rattle.node_spec.proofs.CallLaws.{call-refused, call-passed, earlier_passes,
 use Rattle.std.specs.Prelude.{Ok, Err}
 
 module _ (x : Fixed) (buffer : List ℕ) (now : ℕ) (xs pool : List ℕ) (c : Contents) (f : CanFrame)
-    (q : earlier_check x c buffer ≡ Ok tt) {later : Checked} (l : later ≡ later_check x c) {o : JoinResult} {after bytes : List ℕ}
+    (q : earlier_check x c buffer ≡ Ok tt) {later : Checked} (l : later ≡ later_check x c) {o : OrError Outcome} {after bytes : List ℕ}
     (g : JoinEnds (or_else (state_check (state_in xs pool)) later) (receive x.alias now (state_in xs pool) f) f.payload o xs after pool bytes) where
   abbrev st : State
   st = state_in xs pool
@@ -51,7 +52,7 @@ module _ (x : Fixed) (buffer : List ℕ) (now : ℕ) (xs pool : List ℕ) (c : C
           let j : Joined = receive x.alias now st f in
           let k : call ≡ answer_event (handler x) j.state c j.event = call-passed x buffer now st c f (behind ∙ e) in
           let s : call.state ≡ j.state = ap (λ (y : FrameResult CallError Contents Result). y.state) k ∙ answered-state CallError (handler x) j.state c j.event in
-          let n = g.joins e in
+          let n = joined-done j f.payload o xs after bytes (g.joins e) in
           record {
             answered = k ∙ ap (λ (y : CallEvent). answer_call x j.state c y) (sym n.event) ∙ ap (λ (y : State). answer_call x y c (event_of o f.payload bytes)) (sym s);
             kept = rw s (record { places = n.places; renewal = n.renewal; pool = n.pool });
@@ -70,12 +71,12 @@ module _ (x : Fixed) (buffer : List ℕ) (now : ℕ) (xs pool : List ℕ) (c : C
   pub call-keeps : Keeps call xs after bytes
   call-keeps = comes.kept
 
-  module _ {r : FrameAnswer} {reply : List ℕ} {left : Contents} (p : Answers (answer_call x call.state c (event_of o f.payload bytes)) r buffer reply left) where
+  module _ {r : OrError FrameAnswer} {reply : List ℕ} {left : Contents} (p : Answers (answer_call x call.state c (event_of o f.payload bytes)) r buffer reply left) where
     pub call-small : SmallFrame r
     call-small = event-small x c call.state buffer q (event_of o f.payload bytes) p
 
     pub call-changes : FrameChanges r c.memory left.memory
     call-changes = event-changes x c call.state (event_of o f.payload bytes) p
 
-pub inside-at : (o : JoinResult) (from end : ℕ) → o ≡ outcome.InPool from end → InsidePool o → (from ≤ end) × (end ≤ 576)
+pub inside-at : (o : Outcome) (from end : ℕ) → o ≡ outcome.InPool from end → InsidePool o → (from ≤ end) × (end ≤ 576)
 inside-at o from end e i = rw e at i

@@ -1,5 +1,5 @@
 // What comes of joining a frame, answered.
-ghost use Rattle.std.specs.Prelude.{◌≡◌, ◌≤◌, length};
+ghost use Rattle.std.specs.Prelude.{◌≡◌, ◌≤◌, length, Ok};
 ghost use Rattle.rx_spec.specs.Books.{finish};
 ghost use Rattle.rx_join_spec.specs.Joins.{brings, event_of, InsidePool};
 ghost use Rattle.exec_spec.specs.LentBoard.{board_of};
@@ -7,7 +7,7 @@ ghost use Rattle.node_spec.specs.FrameCall.{AnswersCall};
 
 use exec_registers::Registers;
 use node_spec::FrameAnswer;
-use rx_join_spec::JoinResult;
+use rx_join_spec::Outcome;
 
 // A finished datagram, handled whole.
 fn answer_datagram(
@@ -21,8 +21,8 @@ fn answer_datagram(
     reply: &mut [u8],
 ) -> FrameAnswer
     requires { 72 ≤ length reply.old }
-    ensures { AnswersCall (board_of alias write_lengths spaces flash) (brings (finish datagram.now)) result memory
-        registers reply }
+    ensures { AnswersCall (board_of alias write_lengths spaces flash) (brings (finish datagram.now)) (Ok result)
+        memory registers reply }
 {
     FrameAnswer::Answered(exec_datagram::handle(
         alias,
@@ -45,51 +45,37 @@ pub fn answer_outcome(
     memory: &mut [u8],
     registers: &mut Registers,
     pool: &[u8],
-    outcome: JoinResult,
+    outcome: Outcome,
     payload: &[u8],
     reply: &mut [u8],
 ) -> FrameAnswer
     requires { (72 ≤ length reply.old) × (length pool.now ≡ 576) × InsidePool outcome }
-    ensures { AnswersCall (board_of alias write_lengths spaces flash) (event_of outcome payload.now pool.now) result
-        memory registers reply }
+    ensures { AnswersCall (board_of alias write_lengths spaces flash) (event_of (Ok outcome) payload.now pool.now)
+        (Ok result) memory registers reply }
 {
     match outcome {
-        JoinResult::Refused(error) => {
-            return FrameAnswer::Refused(error);
-        }
-        JoinResult::Ignored => {
-            return FrameAnswer::Ignored;
-        }
-        JoinResult::NoAnswer => {
-            return FrameAnswer::Nothing;
-        }
-        JoinResult::TransportRefusal(code) => {
-            return FrameAnswer::TransportRefusal(code);
-        }
-        JoinResult::InFrame => {
-            return answer_datagram(
-                alias,
-                write_lengths,
-                spaces,
-                flash,
-                memory,
-                registers,
-                payload,
-                reply,
-            );
-        }
-        JoinResult::InPool(from, end) => {
-            let datagram = &pool[from..end];
-            return answer_datagram(
-                alias,
-                write_lengths,
-                spaces,
-                flash,
-                memory,
-                registers,
-                datagram,
-                reply,
-            );
-        }
+        Outcome::Ignored => FrameAnswer::Ignored,
+        Outcome::NoAnswer => FrameAnswer::Nothing,
+        Outcome::TransportRefusal(code) => FrameAnswer::TransportRefusal(code),
+        Outcome::InFrame => answer_datagram(
+            alias,
+            write_lengths,
+            spaces,
+            flash,
+            memory,
+            registers,
+            payload,
+            reply,
+        ),
+        Outcome::InPool(from, end) => answer_datagram(
+            alias,
+            write_lengths,
+            spaces,
+            flash,
+            memory,
+            registers,
+            &pool[from..end],
+            reply,
+        ),
     }
 }

@@ -11,9 +11,10 @@ ghost use Rattle.node_spec.specs.NodeOrder.{NodeTheorems};
 ghost use Rattle.node_spec.specs.DatagramCall.{DatagramEnds};
 ghost use Rattle.node_spec.specs.TickCall.{tick_answer, TickLeaves};
 
-use call_error::Checked;
+use call_error::{CallError, Checked};
 use exec_registers::Registers;
-use node_spec::{FrameAnswer, Handled};
+use node_spec::FrameAnswer;
+use reply_answer::Answer;
 
 mod frames;
 
@@ -41,17 +42,14 @@ pub fn handle_frame(
     header: u32,
     payload: &[u8],
     reply: &mut [u8],
-) -> FrameAnswer
+) -> Result<FrameAnswer, CallError>
     ensures ends { FrameEnds alias write_lengths spaces flash memory registers pool places tick header payload reply result }
     ensures theorems { NodeTheorems (board_of alias write_lengths spaces flash) }
 {
-    let checked = call_check::check_call(alias, spaces, flash.len(), memory.len(), reply.len());
-    if let Err(error) = checked {
-        return FrameAnswer::Refused(error);
-    }
+    call_check::check_call(alias, spaces, flash.len(), memory.len(), reply.len())?;
     let later = check_later();
-    let outcome = rx_join::join(pool, places, alias, tick, header, payload, later);
-    frames::answer_outcome(
+    let outcome = rx_join::join(pool, places, alias, tick, header, payload, later)?;
+    Ok(frames::answer_outcome(
         alias,
         write_lengths,
         spaces,
@@ -62,7 +60,7 @@ pub fn handle_frame(
         outcome,
         payload,
         reply,
-    )
+    ))
 }
 
 // Handles a datagram that is handed over whole.
@@ -75,14 +73,11 @@ pub fn handle_datagram(
     registers: &mut Registers,
     datagram: &[u8],
     reply: &mut [u8],
-) -> Handled
+) -> Result<Answer, CallError>
     ensures { DatagramEnds alias write_lengths spaces flash memory registers datagram reply result }
 {
-    let checked = call_check::check_call(alias, spaces, flash.len(), memory.len(), reply.len());
-    if let Err(error) = checked {
-        return Handled::Refused(error);
-    }
-    let answer = exec_datagram::handle(
+    call_check::check_call(alias, spaces, flash.len(), memory.len(), reply.len())?;
+    Ok(exec_datagram::handle(
         alias,
         write_lengths,
         spaces,
@@ -91,19 +86,18 @@ pub fn handle_datagram(
         registers,
         datagram,
         reply,
-    );
-    Handled::Answered(answer)
+    ))
 }
 
-// Hears a tick that comes with no frame, and says whether B7 lets the places pass. The bytes of unfinished datagrams
+// Hears a tick that comes with no frame, unless B7 refuses the places. The bytes of unfinished datagrams
 // are not touched: a place that is free holds none. A frame's search for its source's place tests B7 too
 // (`rx_search::look_up`): here there is no source.
-pub fn handle_tick(places: &mut [u8; 64], tick: u16) -> bool
+pub fn handle_tick(places: &mut [u8; 64], tick: u16) -> Checked
     ensures { TickLeaves places tick (tick_answer result) }
 {
     if !rx_search::are_sound(places) {
-        return false;
+        return Err(CallError::B7BadReceptionState);
     }
     rx_timeout::drop_due(places, tick);
-    true
+    Ok(())
 }

@@ -1,5 +1,6 @@
 -- Laws of the frames to send: how many there are, a reply in front of its buffer, and demand 3 of frames in and frames out.
 -- Assumes nothing.
+use Rattle.call_error.specs.CallErrors.{OrError}
 use Prim.Native.Nat.{ℕ, ◌≤◌}
 use mathlib.Core.Path.{◌≡◌, refl, ap, ◌∙◌}
 use mathlib.Core.List.{List, [], ◌∷◌, ◌++◌, map, append-nil}
@@ -109,7 +110,7 @@ module _ (board tool : ℕ) (buffer : List ℕ) where
       rw (take-append_seam reply (drop (length reply) buffer), take-length reply)
 
   -- the frames of what the frame call gave back
-  pub sent_is : (a : order.CallAnswer CallError Result) {answer : FrameAnswer} {out : List ℕ} {source : ℕ} → answer ≡ frame_answer_of a → out ≡ frame_buffer_of a buffer
+  pub sent_is : (a : order.CallAnswer CallError Result) {answer : OrError FrameAnswer} {out : List ℕ} {source : ℕ} → answer ≡ frame_answer_of a → out ≡ frame_buffer_of a buffer
       → source ≡ tool
       → {r : ℕ} {before after : List ℕ} → Made (frames_to_send board source answer out) r before after → Made (sent_for board tool a) r before after
   sent_is a e p q m = rw (← sent-from a, ← e, ← p, ← q) m

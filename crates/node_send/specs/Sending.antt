@@ -1,6 +1,7 @@
 -- What the board sends. Document 01, "The demonstration board": "per frame the transport reply, then the reply
 -- datagram's frames"; and demand 3 of frames in and frames out.
-use Rattle.std.specs.Prelude.{ℕ, ◌≤◌, ◌≡◌, List, [], ◌∷◌, ◌++◌, map, length, take}
+use Rattle.call_error.specs.CallErrors.{OrError}
+use Rattle.std.specs.Prelude.{ℕ, ◌≤◌, ◌≡◌, List, [], ◌∷◌, ◌++◌, map, length, take, Ok, Err}
 use Rattle.buffer.specs.Buffer.{over}
 use Rattle.buffer.specs.Lent.{LentBytes, GivenBytes, before, after}
 use Rattle.call_error.specs.declared.CallError.{CallError}
@@ -20,7 +21,7 @@ use Rattle.exec_spec.specs.Handling.{Fixed, Contents}
 use Rattle.node_spec.specs.FrameCall.{handler, frame_answer_of, lent_frame_call, FrameEnds}
 use Rattle.node_spec.specs.NodeOrder.{Call, heard_of, make_call, OrderlyCalls}
 use Rattle.node_spec.specs.declared.FrameAnswer.{FrameAnswer}
-use Rattle.node_spec.specs.declared.FrameAnswer.TheVariants.{Refused, Ignored, Nothing, TransportRefusal, Answered}
+use Rattle.node_spec.specs.declared.FrameAnswer.TheVariants.{Ignored, Nothing, TransportRefusal, Answered}
 
 -- ---- the frames of an answer
 
@@ -43,12 +44,12 @@ answer_frames board tool a buffer = transport_frames board tool (transport_of a)
 -- The frames to send for the answer to a frame, from the board to the tool that the frame came from. The caller's
 -- errors are "never sent", an ignored frame has "no answer", nor has one that is joined or swallowed; a transport
 -- refusal is "Sent as Rejected".
-unfoldable pub frames_to_send : ℕ → ℕ → FrameAnswer → List ℕ → List Frame
-frames_to_send board tool (Refused error) buffer = []
-frames_to_send board tool Ignored buffer = []
-frames_to_send board tool Nothing buffer = []
-frames_to_send board tool (TransportRefusal code) buffer = transport_frames board tool (rejected_code code)
-frames_to_send board tool (Answered a) buffer = answer_frames board tool a buffer
+unfoldable pub frames_to_send : ℕ → ℕ → OrError FrameAnswer → List ℕ → List Frame
+frames_to_send board tool (Err error) buffer = []
+frames_to_send board tool (Ok Ignored) buffer = []
+frames_to_send board tool (Ok Nothing) buffer = []
+frames_to_send board tool (Ok (TransportRefusal code)) buffer = transport_frames board tool (rejected_code code)
+frames_to_send board tool (Ok (Answered a)) buffer = answer_frames board tool a buffer
 
 -- Frames made in lent bytes: r is their number, and the bytes behind them stay as they were.
 pub record Made (fs : List Frame) (r : ℕ) (before after : List ℕ) : Type 0 where
@@ -111,6 +112,6 @@ module _ (alias lengths : ℕ) (spaces flash : GivenBytes) (memory registers poo
       sent_for alias (source_of header)
       (lent_frame_call alias lengths spaces flash memory registers pool places tick header payload reply).answer
 
-  pub record BusEnds (answer : FrameAnswer) (count : ℕ) : Type 0 where
+  pub record BusEnds (answer : OrError FrameAnswer) (count : ℕ) : Type 0 where
     pub ends : FrameEnds alias lengths spaces flash memory registers pool places tick header payload reply answer
     pub sent : Made lent_frames_sent count (before frames) (after frames)

@@ -3,6 +3,7 @@
 
 ghost use Rattle.node_send.specs.Sending.{answer_frames, frames_to_send, Made};
 
+use call_error::CallError;
 use node_spec::FrameAnswer;
 use reply_answer::Answer;
 
@@ -12,17 +13,13 @@ fn send_answer(answer: Answer, reply: &[u8], board: u16, tool: u16, frames: &mut
 {
     match answer {
         Answer::Rejected(rejection) => {
-            return tx_transport::rejected(board, tool, reply_answer::code_of(rejection), frames);
+            tx_transport::rejected(board, tool, reply_answer::code_of(rejection), frames)
         }
-        Answer::Written(_, _) => {
-            return tx_transport::received_ok(board, tool, 0x00, frames);
-        }
-        Answer::UpdateComplete => {
-            return tx_transport::received_ok(board, tool, 0x00, frames);
-        }
+        Answer::Written(_, _) => tx_transport::received_ok(board, tool, 0x00, frames),
+        Answer::UpdateComplete => tx_transport::received_ok(board, tool, 0x00, frames),
         Answer::Replied(length) => {
             let datagram = buffer::part(reply, 0, length);
-            return tx_transport::received_ok_then(board, tool, 0x80, datagram, frames);
+            tx_transport::received_ok_then(board, tool, 0x80, datagram, frames)
         }
     }
 }
@@ -30,7 +27,7 @@ fn send_answer(answer: Answer, reply: &[u8], board: u16, tool: u16, frames: &mut
 // Makes the frames to send for the answer to a frame, and gives their number, 0 to 10. The reply is in front of its
 // buffer.
 pub fn frames_to_send(
-    answer: FrameAnswer,
+    answer: Result<FrameAnswer, CallError>,
     reply: &[u8],
     board: u16,
     tool: u16,
@@ -39,20 +36,12 @@ pub fn frames_to_send(
     ensures { Made (frames_to_send board tool answer reply.now) result frames.old frames.new }
 {
     match answer {
-        FrameAnswer::Refused(_) => {
-            return 0;
-        }
-        FrameAnswer::Ignored => {
-            return 0;
-        }
-        FrameAnswer::Nothing => {
-            return 0;
-        }
-        FrameAnswer::TransportRefusal(code) => {
-            return tx_transport::rejected(board, tool, code, frames);
-        }
-        FrameAnswer::Answered(done) => {
-            return send_answer(done, reply, board, tool, frames);
-        }
+        Err(_) => 0,
+        Ok(FrameAnswer::Ignored) => 0,
+        Ok(FrameAnswer::Nothing) => 0,
+        Ok(FrameAnswer::TransportRefusal(code)) => tx_transport::rejected(
+            board, tool, code, frames,
+        ),
+        Ok(FrameAnswer::Answered(done)) => send_answer(done, reply, board, tool, frames),
     }
 }

@@ -2,12 +2,12 @@
 -- Assumes nothing.
 use Prim.Native.Nat.{ℕ, ◌≤◌}
 use mathlib.Core.Path.{◌≡◌, refl, sym, ap, ◌∙◌}
-use mathlib.Core.Bool.{Bool, true, false}
+use mathlib.Core.Bool.{true, false}
 use mathlib.Core.List.{List}
 use native.Mathlib.Omega.{arith}
 use lib.ListN.{length}
 use borrow.Author.Tests.{le-ltb}
-use Rattle.call_error.specs.CallErrors.{or_else, unless_failed, Checked}
+use Rattle.call_error.specs.CallErrors.{or_else, unless_failed, Checked, OrError}
 use Rattle.call_error.specs.declared.CallError.{CallError}
 use Rattle.can_frame.specs.Frame.{CanFrame}
 use Rattle.rx_place_spec.specs.State.{State}
@@ -57,11 +57,11 @@ handle-keeps x c d = changes-size (answer_of (handle x c d).result) c.memory (ha
 -- a finished datagram, handled with a buffer that takes every reply
 pub answers-finish : (x : Fixed) (c : Contents) (d buffer : List ℕ) → 72 ≤ length buffer → {r : Answer} {after : List ℕ} {left : Contents} →
     Performs (handle x c d) r buffer after left → (st : State) →
-    Answers (answer_call x st c (brings (finish d))) (Answered r) buffer after left
+    Answers (answer_call x st c (brings (finish d))) (Ok (Answered r)) buffer after left
 answers-finish x c d buffer h p st =
     let w = whole (handle x c d).result buffer p.short h in
     record {
-      answer = ap Answered (p.answer.answer ∙ ap answer_of w);
+      answer = ap (λ (a : Answer). Ok (Answered a)) (p.answer.answer ∙ ap answer_of w);
       reply = p.answer.buffer ∙ ap (λ y. buffer_of y buffer) w;
       contents = p.contents;
       short = p.short;
@@ -69,7 +69,7 @@ answers-finish x c d buffer h p st =
 
 -- the numbers of an answer, and what it says of memory
 
-module _ (x : Fixed) (c : Contents) (st : State) {r : FrameAnswer} {before after : List ℕ} {left : Contents} where
+module _ (x : Fixed) (c : Contents) (st : State) {r : OrError FrameAnswer} {before after : List ℕ} {left : Contents} where
   pub event-small : (buffer : List ℕ) → earlier_check x c buffer ≡ Ok tt → (e : CallEvent) → Answers (answer_call x st c e) r before after left → SmallFrame r
   event-small buffer g (refused_by error) p = rw p.answer tt
   event-small buffer g (brings ignored) p = rw p.answer tt
@@ -128,9 +128,9 @@ module _ (x : Fixed) (buffer : List ℕ) (st : State) (c : Contents) where
 
 -- ---- the tick call
 
-pub tick-small : (b : Bool) → SmallFrame (tick_answer b)
-tick-small true = tt
-tick-small false = tt
+pub tick-small : (heard : Checked) → SmallFrame (tick_answer heard)
+tick-small (Ok u) = tt
+tick-small (Err error) = tt
 
 -- ---- demand 3
 

@@ -19,7 +19,6 @@ use Rattle.exec_spec.specs.Handling.{Fixed, Contents, handle, Short, WrittenInsi
 use Rattle.exec_spec.proofs.HandlingLaws.{whole, handle-bounds}
 use Rattle.node_spec.specs.CallerErrors.{earlier_check, datagram_check}
 use Rattle.node_spec.specs.DatagramCall.{datagram_call, EndsAs}
-use Rattle.node_spec.specs.declared.Handled.TheVariants.{Refused, Answered}
 use Rattle.std.specs.Prelude.{Ok, Err}
 
 -- ---- no error of the caller
@@ -69,7 +68,7 @@ answer-small x c d buffer g s =
 -- ---- the call, by what the check finds
 
 module _ (x : Fixed) (c : Contents) (d buffer : List ℕ) where
-  pub call-refused : {error : CallError} → earlier_check x c buffer ≡ Err error → EndsAs (datagram_call x c d buffer) (Refused error) buffer c
+  pub call-refused : {error : CallError} → earlier_check x c buffer ≡ Err error → EndsAs (datagram_call x c d buffer) (Err error) buffer c
   unfolding datagram_call
   call-refused e = rw (datagram_check_lem x c buffer, e) (record { handled = refl; reply = refl; contents = refl })
 
@@ -80,11 +79,11 @@ module _ (x : Fixed) (c : Contents) (d buffer : List ℕ) where
     answered : r ≡ answer_of (handle x c d).result
     answered = p.answer.answer ∙ ap answer_of fits
 
-    pub call-answered : EndsAs (datagram_call x c d buffer) (Answered r) after left
+    pub call-answered : EndsAs (datagram_call x c d buffer) (Ok r) after left
     unfolding datagram_call
     call-answered =
         rw (datagram_check_lem x c buffer, good)
-        (record { handled = ap Answered answered; reply = p.answer.buffer ∙ ap (λ y. buffer_of y buffer) fits; contents = p.contents })
+        (record { handled = ap Ok answered; reply = p.answer.buffer ∙ ap (λ y. buffer_of y buffer) fits; contents = p.contents })
 
     pub call-small : SmallAnswer r
     call-small = rw answered (answer-small x c d buffer good p.short)

@@ -1,7 +1,7 @@
 -- The frame call: the caller's errors at every call, joining, and a finished datagram handled whole.
-use Rattle.std.specs.Prelude.{ℕ, List, ◌≡◌}
+use Rattle.std.specs.Prelude.{ℕ, List, ◌≡◌, Ok, Err}
 use Rattle.buffer.specs.Lent.{LentBytes, GivenBytes, before, after, given}
-use Rattle.call_error.specs.CallErrors.{unless_failed}
+use Rattle.call_error.specs.CallErrors.{unless_failed, OrError}
 use Rattle.call_error.specs.declared.CallError.{CallError}
 use Rattle.can_frame.specs.Frame.{CanFrame, can_frame}
 use Rattle.rx_place_spec.specs.State.{State}
@@ -35,12 +35,12 @@ frame_call x buffer now st c f =
 -- ---- what the code gives back
 
 -- An answer as the code gives it: the reply's bytes are in the buffer.
-abbrev pub frame_answer_of : order.CallAnswer CallError Result → FrameAnswer
-frame_answer_of (caller_error error) = answer.Refused error
-frame_answer_of ignored_frame = answer.Ignored
-frame_answer_of nothing = answer.Nothing
-frame_answer_of (transport_refusal code) = answer.TransportRefusal code
-frame_answer_of (handled r) = answer.Answered (answer_of r)
+abbrev pub frame_answer_of : order.CallAnswer CallError Result → OrError FrameAnswer
+frame_answer_of (caller_error error) = Err error
+frame_answer_of ignored_frame = Ok answer.Ignored
+frame_answer_of nothing = Ok answer.Nothing
+frame_answer_of (transport_refusal code) = Ok (answer.TransportRefusal code)
+frame_answer_of (handled r) = Ok (answer.Answered (answer_of r))
 
 -- The reply buffer afterwards: untouched but for a reply.
 abbrev pub frame_buffer_of : order.CallAnswer CallError Result → List ℕ → List ℕ
@@ -59,7 +59,7 @@ ShortFrame (transport_refusal code) = Unit {0}
 ShortFrame (handled r) = Short r
 
 -- The answer r, the buffer `after` and the contents `left` are what x says, over the buffer `before`.
-pub record Answers (x : FrameResult CallError Contents Result) (r : FrameAnswer)
+pub record Answers (x : FrameResult CallError Contents Result) (r : OrError FrameAnswer)
     (before after : List ℕ) (left : Contents) : Type 0 where
   pub answer : r ≡ frame_answer_of x.answer
   pub reply : after ≡ frame_buffer_of x.answer before
@@ -72,28 +72,28 @@ answer_call x st c (refused_by error) = frame_result st c (caller_error error)
 answer_call x st c (brings e) = answer_event (handler x) st c e
 
 -- It is answered so, whatever is left of the reception state, with memory, registers and reply buffer as they are lent.
-abbrev pub AnswersCall : Fixed → CallEvent → FrameAnswer → LentBytes → LentBytes → LentBytes → Type 0
+abbrev pub AnswersCall : Fixed → CallEvent → OrError FrameAnswer → LentBytes → LentBytes → LentBytes → Type 0
 AnswersCall x e r memory registers reply =
     (st : State) →
     Answers (answer_call x st (contents_before memory registers) e) r (before reply) (after reply)
     (contents_after memory registers)
 
 -- How large the numbers of an answer are.
-abbrev pub SmallFrame : FrameAnswer → Type 0
-SmallFrame (answer.Refused error) = Unit {0}
-SmallFrame answer.Ignored = Unit {0}
-SmallFrame answer.Nothing = Unit {0}
-SmallFrame (answer.TransportRefusal code) = Unit {0}
-SmallFrame (answer.Answered a) = SmallAnswer a
+abbrev pub SmallFrame : OrError FrameAnswer → Type 0
+SmallFrame (Err error) = Unit {0}
+SmallFrame (Ok answer.Ignored) = Unit {0}
+SmallFrame (Ok answer.Nothing) = Unit {0}
+SmallFrame (Ok (answer.TransportRefusal code)) = Unit {0}
+SmallFrame (Ok (answer.Answered a)) = SmallAnswer a
 
 -- Memory, which was `old` and is `new`, by the answer: only a finished datagram changes it, in the bytes that its
 -- answer names.
-abbrev pub FrameChanges : FrameAnswer → List ℕ → List ℕ → Type 0
-FrameChanges (answer.Refused error) old new = new ≡ old
-FrameChanges answer.Ignored old new = new ≡ old
-FrameChanges answer.Nothing old new = new ≡ old
-FrameChanges (answer.TransportRefusal code) old new = new ≡ old
-FrameChanges (answer.Answered a) old new = Changes a old new
+abbrev pub FrameChanges : OrError FrameAnswer → List ℕ → List ℕ → Type 0
+FrameChanges (Err error) old new = new ≡ old
+FrameChanges (Ok answer.Ignored) old new = new ≡ old
+FrameChanges (Ok answer.Nothing) old new = new ≡ old
+FrameChanges (Ok (answer.TransportRefusal code)) old new = new ≡ old
+FrameChanges (Ok (answer.Answered a)) old new = Changes a old new
 
 -- The bytes of the places, which were `before` and are `after`, and the pool are what x says. A place that is changed
 -- gets its bytes anew, and every other keeps all of them.
@@ -110,7 +110,7 @@ module _ (alias lengths : ℕ) (spaces flash : GivenBytes) (memory registers poo
       frame_call (board_of alias lengths spaces flash) (before reply) tick (state_before places pool)
       (contents_before memory registers) (can_frame header (given payload))
 
-  pub record FrameEnds (r : FrameAnswer) : Type 0 where
+  pub record FrameEnds (r : OrError FrameAnswer) : Type 0 where
     pub answers : Answers lent_frame_call r (before reply) (after reply) (contents_after memory registers)
     pub keeps : Keeps lent_frame_call (before places) (after places) (after pool)
     pub small : SmallFrame r

@@ -15,9 +15,10 @@ pub fn first_error(found: usize, later: Checked) -> Checked
     ensures { result ≡ or_else (cond (eqb found unsound) (Err error.B7BadReceptionState) (Ok tt)) later }
 {
     if found == rx_search::UNSOUND {
-        return Err(CallError::B7BadReceptionState);
+        Err(CallError::B7BadReceptionState)
+    } else {
+        later
     }
-    later
 }
 
 // Place i where it is held.
@@ -25,9 +26,10 @@ fn where_held(places: &[u8; 64], i: usize) -> usize
     ensures { result ≡ cond (get_or (places_in places.now) i free_place).held i no_place }
 {
     if rx_place::is_held(places, i) {
-        return i;
+        i
+    } else {
+        rx_search::NO_PLACE
     }
-    rx_search::NO_PLACE
 }
 
 // What is due dropped, where the search found that something is; and the place that it found for the source, or

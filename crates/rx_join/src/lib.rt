@@ -1,7 +1,7 @@
 // Frames joined into datagrams, or swallowed behind one that was refused.
 #![tactic(auto)]
 
-ghost use Rattle.std.specs.Prelude.{length};
+ghost use Rattle.std.specs.Prelude.{length, IfOk};
 ghost use Rattle.call_error.specs.CallErrors.{or_else};
 ghost use Rattle.can_frame.specs.Frame.{can_frame, source_of, role_of};
 ghost use Rattle.rx_place_spec.specs.Ticks.{drop_due};
@@ -12,8 +12,8 @@ ghost use Rattle.rx_source_spec.specs.Aging.{JoinAging};
 ghost use Rattle.rx_source_spec.specs.OneSource.{JoinOneSource, OneRejection};
 ghost use Rattle.rx_join_spec.specs.Joins.{JoinEnds, Lies};
 
-use call_error::Checked;
-use rx_join_spec::JoinResult;
+use call_error::{CallError, Checked};
+use rx_join_spec::Outcome;
 
 mod arrival;
 mod unfinished;
@@ -30,26 +30,23 @@ pub fn join(
     header: u32,
     payload: &[u8],
     later: Checked,
-) -> JoinResult
+) -> Result<Outcome, CallError>
     ensures ends { JoinEnds (or_else (state_check (state_before places pool)) later)
         (receive alias tick (state_before places pool) (can_frame header payload.now)) payload.now result
         places.old places.new pool.old pool.new }
-    ensures lies { Lies (role_of alias header (length payload.now))
-        (place_of (source_of header) (drop_due tick (places_in places.old))) result }
+    ensures lies { IfOk result (Lies (role_of alias header (length payload.now))
+        (place_of (source_of header) (drop_due tick (places_in places.old)))) }
     ensures aging { JoinAging }
     ensures source { JoinOneSource }
     ensures rejection { OneRejection }
 {
     let source = can_frame::source_of(header);
     let looked = rx_search::look_up(places, source, tick);
-    let checked = arrival::first_error(looked.found, later);
-    if let Err(error) = checked {
-        return JoinResult::Refused(error);
-    }
+    arrival::first_error(looked.found, later)?;
     let i = arrival::arrive(places, looked.found, looked.due, tick);
     if 8 < payload.len() {
-        return JoinResult::Ignored;
+        return Ok(Outcome::Ignored);
     }
     let role = can_frame::role_of(alias, header, payload.len());
-    unfinished::join_sound(pool, places, role, source, payload, tick, i)
+    Ok(unfinished::join_sound(pool, places, role, source, payload, tick, i))
 }

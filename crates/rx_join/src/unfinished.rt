@@ -10,7 +10,7 @@ ghost use Rattle.rx_join_spec.specs.Joins.{Joins, Lies};
 ghost use Rattle.rx_join_spec.specs.Inner.{Lent, Appendable, Own, Allowed, step_done, LiesAfter};
 
 use can_frame::Role;
-use rx_join_spec::JoinResult;
+use rx_join_spec::Outcome;
 use rx_step::Step;
 
 // The bytes of the pool for each place.
@@ -29,7 +29,7 @@ fn room_at(i: usize) -> usize
 }
 
 // Place i freed, if it is there, and what comes of the frame.
-fn leave(places: &mut [u8], i: usize, outcome: JoinResult) -> JoinResult
+fn leave(places: &mut [u8], i: usize, outcome: Outcome) -> Outcome
     ensures { (places.new ≡ placed (8 * i) (place_bytes free_place) places.old) × (result ≡ outcome) }
 {
     rx_place::free(places, i);
@@ -38,39 +38,27 @@ fn leave(places: &mut [u8], i: usize, outcome: JoinResult) -> JoinResult
 
 // The frame refused, and place i kept for its source, which is being swallowed from now on. The tick stays: a refused
 // frame is not accepted.
-fn refuse_and_swallow(places: &mut [u8; 64], i: usize, source: u16, code: u16) -> JoinResult
+fn refuse_and_swallow(places: &mut [u8; 64], i: usize, source: u16, code: u16) -> Outcome
     requires { Own i source false places.old }
     ensures { (pool d : List ℕ) (at : ℕ) → Joins (step_done (does.RefuseAndSwallow code) true source i d at
         (state_in places.old pool)) d result places.old places.new pool }
 {
     let tick = rx_place::tick_at(places, i);
     rx_place::swallow(places, i, source, tick);
-    JoinResult::TransportRefusal(code)
-}
-
-// Whether a place of a source that is being swallowed, with that length and tick, is as a frame at the tick `at` leaves
-// it.
-fn stands(len: u8, tick: u16, at: u16) -> bool
-    ensures { result ≡ (eqb len 0 && eqb tick at) }
-{
-    if len == 0 {
-        return tick == at;
-    }
-    false
+    Outcome::TransportRefusal(code)
 }
 
 // A Middle of a source that is being swallowed: it is the last accepted frame from now on. A place that has its tick
 // already keeps its bytes.
-fn swallow(places: &mut [u8; 64], i: usize, source: u16, len: u8, tick: u16) -> JoinResult
+fn swallow(places: &mut [u8; 64], i: usize, source: u16, len: u8, tick: u16) -> Outcome
     requires { Own i source true places.old × (len ≡ (get_or (places_in places.old) i free_place).len) }
     ensures { (pool d : List ℕ) → Joins (step_done does.Swallow true source i d tick (state_in places.old pool)) d result
         places.old places.new pool }
 {
-    if stands(len, rx_place::tick_at(places, i), tick) {
-        return JoinResult::NoAnswer;
+    if len != 0 || rx_place::tick_at(places, i) != tick {
+        rx_place::swallow(places, i, source, tick);
     }
-    rx_place::swallow(places, i, source, tick);
-    JoinResult::NoAnswer
+    Outcome::NoAnswer
 }
 
 // Where a datagram is opened: in place i, where it is there, and otherwise in the first free one.
@@ -78,9 +66,10 @@ fn room_for(places: &[u8; 64], i: usize) -> usize
     ensures { result ≡ cond (ltb i 8) i (free_in (places_in places.now)) }
 {
     if i < rx_search::NO_PLACE {
-        return i;
+        i
+    } else {
+        rx_search::find_free(places)
     }
-    rx_search::find_free(places)
 }
 
 // A First: opens a datagram in the place of its source, which is being swallowed, or in the first free place, where it
@@ -92,18 +81,18 @@ fn open(
     source: u16,
     payload: &[u8],
     tick: u16,
-) -> JoinResult
+) -> Outcome
     requires { Lent pool.old payload.now × (i < 8 → Own i source true places.old) }
     ensures { Joins (step_done does.Open (ltb i 8) source i payload.now tick (state_before places pool))
         payload.now result places.old places.new pool.new }
 {
     let k = room_for(places, i);
     if rx_search::NO_PLACE <= k {
-        return JoinResult::TransportRefusal(BUFFER_UNAVAILABLE);
+        return Outcome::TransportRefusal(BUFFER_UNAVAILABLE);
     }
     buffer::put(pool, room_at(k), payload);
     rx_place::hold(places, k, source, payload.len() as u8, tick);
-    JoinResult::NoAnswer
+    Outcome::NoAnswer
 }
 
 // A Middle: appends to the `len` bytes in place i.
@@ -115,19 +104,19 @@ fn append(
     len: u8,
     payload: &[u8],
     tick: u16,
-) -> JoinResult
+) -> Outcome
     requires { Lent pool.old payload.now × Appendable i len false places.old payload.now }
     ensures { Joins (step_done does.Append true source i payload.now tick (state_before places pool)) payload.now result
         places.old places.new pool.new }
 {
     buffer::put(pool, room_at(i) + len as usize, payload);
     rx_place::hold(places, i, source, len + payload.len() as u8, tick);
-    JoinResult::NoAnswer
+    Outcome::NoAnswer
 }
 
 // A Last: appends to the `len` bytes in place i, and closes the datagram; its bytes stay in the pool until the place is
 // used again.
-fn close(pool: &mut [u8], places: &mut [u8; 64], i: usize, len: u8, payload: &[u8]) -> JoinResult
+fn close(pool: &mut [u8], places: &mut [u8; 64], i: usize, len: u8, payload: &[u8]) -> Outcome
     requires { Lent pool.old payload.now × Appendable i len true places.old payload.now }
     ensures joins { Joins (step_done does.Close true 0 i payload.now 0 (state_before places pool)) payload.now result
         places.old places.new pool.new }
@@ -137,7 +126,7 @@ fn close(pool: &mut [u8], places: &mut [u8; 64], i: usize, len: u8, payload: &[u
     let end = from + len as usize;
     buffer::put(pool, end, payload);
     rx_place::free(places, i);
-    JoinResult::InPool(from, end + payload.len())
+    Outcome::InPool(from, end + payload.len())
 }
 
 // A step taken for a frame of the source, whose place is i, with the length `len`, or `NO_PLACE`.
@@ -150,7 +139,7 @@ fn take_step(
     tick: u16,
     i: usize,
     len: u8,
-) -> JoinResult
+) -> Outcome
     requires { Lent pool.old payload.now × (i < 8 → (get_or (places_in places.old) i free_place).held ≡ true)
         × Allowed step i source len places.old payload.now }
     ensures joins { Joins (step_done step (ltb i 8) source i payload.now tick (state_before places pool)) payload.now result
@@ -158,33 +147,15 @@ fn take_step(
     ensures lies { LiesAfter step i result }
 {
     match step {
-        Step::Ignore => {
-            return JoinResult::Ignored;
-        }
-        Step::Deliver => {
-            return leave(places, i, JoinResult::InFrame);
-        }
-        Step::Open => {
-            return open(pool, places, i, source, payload, tick);
-        }
-        Step::Append => {
-            return append(pool, places, i, source, len, payload, tick);
-        }
-        Step::Close => {
-            return close(pool, places, i, len, payload);
-        }
-        Step::Refuse(code) => {
-            return leave(places, i, JoinResult::TransportRefusal(code));
-        }
-        Step::RefuseAndSwallow(code) => {
-            return refuse_and_swallow(places, i, source, code);
-        }
-        Step::Swallow => {
-            return swallow(places, i, source, len, tick);
-        }
-        Step::SwallowLast => {
-            return leave(places, i, JoinResult::NoAnswer);
-        }
+        Step::Ignore => Outcome::Ignored,
+        Step::Deliver => leave(places, i, Outcome::InFrame),
+        Step::Open => open(pool, places, i, source, payload, tick),
+        Step::Append => append(pool, places, i, source, len, payload, tick),
+        Step::Close => close(pool, places, i, len, payload),
+        Step::Refuse(code) => leave(places, i, Outcome::TransportRefusal(code)),
+        Step::RefuseAndSwallow(code) => refuse_and_swallow(places, i, source, code),
+        Step::Swallow => swallow(places, i, source, len, tick),
+        Step::SwallowLast => leave(places, i, Outcome::NoAnswer),
     }
 }
 
@@ -198,7 +169,7 @@ pub fn join_sound(
     payload: &[u8],
     tick: u16,
     i: usize,
-) -> JoinResult
+) -> Outcome
     requires { Lent pool.old payload.now × (sound (places_in places.old) ≡ true)
         × (i ≡ place_of source (places_in places.old)) }
     ensures joins { Joins (join_sound role source payload.now tick (state_before places pool)) payload.now result

@@ -30,13 +30,13 @@ use Rattle.rx_place_spec.proofs.ByteLaws.{places-length, renewed-same, Changed, 
 use Rattle.rx_spec.proofs.StepLaws.{joins}
 use Rattle.rx_spec.proofs.DropLaws.{good-due, sized_due}
 use Rattle.rx_spec.proofs.DropBytes.{renewed-after}
-use Rattle.rx_join_spec.specs.declared.JoinResult.{JoinResult}
-use Rattle.rx_join_spec.specs.declared.JoinResult.TheVariants as outcome
-use Rattle.rx_join_spec.specs.Joins.{brings, event_of, InsidePool, Joins}
+use Rattle.rx_join_spec.specs.declared.Outcome.{Outcome}
+use Rattle.rx_join_spec.specs.declared.Outcome.TheVariants as outcome
+use Rattle.rx_join_spec.specs.Joins.{outcome_event, InsidePool, Joins}
 use Rattle.rx_join_spec.specs.Inner.{Lent, Appendable, Own, Allowed, freed_if, step_done}
 
 -- the state stays as it was
-pub stays_joins : (d pool xs : List ℕ) (o : JoinResult) (e : Event) → event_of o d pool ≡ brings e → InsidePool o → Joins (joined (state_in xs pool) e) d o xs xs pool
+pub stays_joins : (d pool xs : List ℕ) (o : Outcome) (e : Event) → outcome_event o d pool ≡ e → InsidePool o → Joins (joined (state_in xs pool) e) d o xs xs pool
 stays_joins d pool xs o e b i = record { places = refl; renewal = renewed-same xs; pool = refl; event = b; inside = i }
 
 -- ---- opened
@@ -170,14 +170,14 @@ module _ (i n : ℕ) (last : Bool) (d pool xs : List ℕ) (m : Lent pool d) (u :
         places = changed-places c;
         renewal = changed-bytes c (differ-held (get_or (places_in xs) i free_place) free_place true u.held refl);
         pool = put;
-        event = ap (λ (y : List ℕ). brings (finish y)) (rw put (whole end q));
+        event = ap (finish) (rw put (whole end q));
         inside = (omega arith, omega (arith, u.inside, u.total));
       })
 
 -- ---- left
 
 -- place i becomes free, if it is there
-pub left-joins : (i : ℕ) (d pool xs : List ℕ) (o : JoinResult) (e : Event) (after : List ℕ) → event_of o d pool ≡ brings e → InsidePool o → length xs ≡ 64 → (i < 8 → (get_or (places_in xs) i free_place).held ≡ true) →
+pub left-joins : (i : ℕ) (d pool xs : List ℕ) (o : Outcome) (e : Event) (after : List ℕ) → outcome_event o d pool ≡ e → InsidePool o → length xs ≡ 64 → (i < 8 → (get_or (places_in xs) i free_place).held ≡ true) →
     after ≡ placed (8 * i) (place_bytes free_place) xs → Joins (joined (freed_if (ltb i 8) i (state_in xs pool)) e) d o xs after pool
 left-joins i d pool xs o e after b inside z held a = go (ltb i 8) refl
   where
@@ -313,7 +313,7 @@ module _ (s i : ℕ) (d : List ℕ) (now : ℕ) (pool xs : List ℕ) (m : Lent p
 
   module _ (role : Role) (w : Bool) (v : w ≡ (get_or (places_in xs) i free_place).swallowing) (l : ℕ) (k : l ≡ len) where
     -- the step x that the rules give is taken
-    pub step_joins : (x : Step) → x ≡ step_of role (length d) (ltb i 8) w l → (o : JoinResult) (after bytes : List ℕ) →
+    pub step_joins : (x : Step) → x ≡ step_of role (length d) (ltb i 8) w l → (o : Outcome) (after bytes : List ℕ) →
         Joins (step_done x (ltb i 8) s i d now here) d o xs after bytes → Joins (join_sound role s d now here) d o xs after bytes
     step_joins x p o after bytes j = rw (rules role (ltb i 8) w refl (sym v), ← k, ← p) j
 
@@ -358,7 +358,7 @@ module _ (alias now header : ℕ) (d pool xs mid : List ℕ) (ok : sound (places
   long_joins h = rw (lt-leb (length d) 8 h) (record { places = places; renewal = renewal; pool = refl; event = refl; inside = tt })
 
   -- the frame joined to what is left
-  pub sound-joins : (role : Role) (s : ℕ) (o : JoinResult) (after bytes : List ℕ) → length pool ≡ 576 → role ≡ role_of alias header (length d) → s ≡ source_of header →
+  pub sound-joins : (role : Role) (s : ℕ) (o : Outcome) (after bytes : List ℕ) → length pool ≡ 576 → role ≡ role_of alias header (length d) → s ≡ source_of header →
       Joins (join_sound role s d now (state_in mid pool)) d o mid after bytes → Joins received d o xs after bytes
   unfolding receive
   sound-joins role s o after bytes l u v j =

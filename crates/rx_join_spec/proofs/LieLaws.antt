@@ -14,9 +14,9 @@ use Rattle.rx_step.specs.Step.{step_of}
 use Rattle.rx_spec.specs.Books.{Event, ignored, no_answer, refuse, finish, buffer_unavailable}
 use Rattle.rx_place_spec.specs.State.{State}
 use Rattle.rx_spec.specs.Reception.{full, free_in, opened, Joined, joined}
-use Rattle.rx_join_spec.specs.declared.JoinResult.{JoinResult}
-use Rattle.rx_join_spec.specs.declared.JoinResult.TheVariants as outcome
-use Rattle.rx_join_spec.specs.Joins.{CallEvent, refused_by, brings, Lies, Joins}
+use Rattle.rx_join_spec.specs.declared.Outcome.{Outcome}
+use Rattle.rx_join_spec.specs.declared.Outcome.TheVariants as outcome
+use Rattle.rx_join_spec.specs.Joins.{Lies, Joins}
 use Rattle.rx_join_spec.specs.Inner.{step_done, LiesAfter}
 
 -- ---- what finishes nothing
@@ -26,12 +26,6 @@ finishes ignored = false
 finishes no_answer = false
 finishes (refuse code) = false
 finishes (finish d) = true
-
--- a call that is refused finishes nothing
-call-finishes : CallEvent → Bool
-unfolding finishes
-call-finishes (refused_by error) = false
-call-finishes (brings e) = finishes e
 
 pub record Unfinishing (e : Event) : Type 0 where
   no : finishes e ≡ false
@@ -53,14 +47,13 @@ opening false s i d now st = go (full st.places)
     go true = refused buffer_unavailable
     go false = no_answer_lem
 
-pub nowhere : (x : Step) (i : ℕ) (o : JoinResult) {j : Joined} {d xs after bytes : List ℕ} → Joins j d o xs after bytes → Unfinishing j.event → LiesAfter x i o
-unfolding finishes call-finishes
-nowhere x i (outcome.Refused error) j u = tt
+pub nowhere : (x : Step) (i : ℕ) (o : Outcome) {j : Joined} {d xs after bytes : List ℕ} → Joins j d o xs after bytes → Unfinishing j.event → LiesAfter x i o
+unfolding finishes
 nowhere x i outcome.Ignored j u = tt
 nowhere x i outcome.NoAnswer j u = tt
 nowhere x i (outcome.TransportRefusal code) j u = tt
-nowhere x i outcome.InFrame j u = clash (ap call-finishes j.event ∙ u.no)
-nowhere x i (outcome.InPool from end) j u = clash (ap call-finishes j.event ∙ u.no)
+nowhere x i outcome.InFrame j u = clash (ap finishes j.event ∙ u.no)
+nowhere x i (outcome.InPool from end) j u = clash (ap finishes j.event ∙ u.no)
 
 -- ---- which frame a step is for
 
@@ -103,9 +96,8 @@ for_frame Middle n false w l = tt
 for_frame Last n false w l = tt
 
 -- where a datagram lies by the step, and so by the frame
-pub by-frame : (role : Role) (n : ℕ) (b w : Bool) (l : ℕ) (x : Step) → x ≡ step_of role n b w l → (i : ℕ) (o : JoinResult) → LiesAfter x i o → Lies role i o
+pub by-frame : (role : Role) (n : ℕ) (b w : Bool) (l : ℕ) (x : Step) → x ≡ step_of role n b w l → (i : ℕ) (o : Outcome) → LiesAfter x i o → Lies role i o
 unfolding ForFrame
-by-frame role n b w l x e i (outcome.Refused error) a = tt
 by-frame role n b w l x e i outcome.Ignored a = tt
 by-frame role n b w l x e i outcome.NoAnswer a = tt
 by-frame role n b w l x e i (outcome.TransportRefusal code) a = tt

@@ -8,8 +8,8 @@ use Rattle.rx_spec.specs.Books.{blank, ignored, no_answer, refuse, finish}
 use Rattle.rx_place_spec.specs.State.{State}
 use Rattle.rx_spec.specs.Reception.{is_for, bytes_of_place, dropped, opened, appended, closed, swallowed, kept_after_refusal, Joined, joined, join_rule}
 use Rattle.rx_place_spec.specs.PlaceBytes.{places_in}
-use Rattle.rx_join_spec.specs.declared.JoinResult.{JoinResult}
-use Rattle.rx_join_spec.specs.declared.JoinResult.TheVariants as outcome
+use Rattle.rx_join_spec.specs.declared.Outcome.{Outcome}
+use Rattle.rx_join_spec.specs.declared.Outcome.TheVariants as outcome
 
 -- A pool of 72 bytes for each place, and a frame's data.
 pub record Lent (bytes d : List ℕ) : Type 0 where
@@ -61,8 +61,7 @@ step_done Swallow unfinished s i d now st = joined (swallowed s now i st) no_ans
 step_done SwallowLast unfinished s i d now st = joined (freed_if unfinished i st) no_answer
 
 -- Where a finished datagram lies, by the step that finished it.
-abbrev pub LiesAfter : Step → ℕ → JoinResult → Type 0
-LiesAfter step i (outcome.Refused error) = Unit {0}
+abbrev pub LiesAfter : Step → ℕ → Outcome → Type 0
 LiesAfter step i outcome.Ignored = Unit {0}
 LiesAfter step i outcome.NoAnswer = Unit {0}
 LiesAfter step i (outcome.TransportRefusal code) = Unit {0}

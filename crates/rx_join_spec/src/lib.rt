@@ -2,13 +2,10 @@
 // outcome; the code is in `rx_join`.
 #![tactic(auto)]
 
-use call_error::CallError;
-
-// What comes of a call for a frame: an error of the caller, or what the frame brings about. A finished datagram is the
-// frame's own data, or the part of the pool from the first number up to the second.
-#[derive(Drop)]
-pub enum JoinResult {
-    Refused(CallError),
+// What a frame brings about. A finished datagram is the frame's own data, or the part of the pool from the first number
+// up to the second.
+#[derive(Clone, Copy)]
+pub enum Outcome {
     Ignored,
     NoAnswer,
     TransportRefusal(u16),

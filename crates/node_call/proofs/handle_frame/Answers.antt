@@ -3,6 +3,7 @@
 use mathlib.Core.Path.{refl, sym, ◌∙◌}
 use borrow.Author.Rules.{rules}
 use Rattle.can_frame.specs.Frame.{can_frame}
+use Rattle.std.proofs.lemmas.Result.{err_from_is_err_and}
 use Rattle.space_table.specs.Table.{spaces_in}
 use Rattle.rx_place_spec.specs.PlaceBytes.{state_in}
 use Rattle.rx_place_spec.proofs.ByteLaws.{renewed-same}
@@ -15,31 +16,55 @@ use Rattle.node_spec.proofs.CallLaws.{call-refused, earlier_fails, node_theorems
 use Rattle.node_call.proofs.FrameLaws.{call-joined, call-keeps, call-small, call-changes}
 use Rattle.node_call.proofs.handle_frame.Goals as goal
 
-pub returns-in-Err-clause-ends : goal.returns-in-Err-clause-ends
-returns-in-Err-clause-ends c =
+pub returns-in_err-check_call-clause-ends : goal.returns-in_err-check_call-clause-ends
+returns-in_err-check_call-clause-ends c =
     let a = c.args in
     let x = fixed a.alias a.write_lengths (spaces_in a.spaces.now) a.flash.now in
     let w = contents_in a.memory.now a.registers.now in
     let st = state_in a.places.now a.pool.now in
-    let g = sym (by-sizes x w a.reply.now c.check_call-checked.ensures.first) ∙ c.in-Err.is in
+    let g = sym (by-sizes x w a.reply.now c.check_call.ensures.first) ∙ c.in_err-check_call.was in
     let e = call-refused x a.reply.now a.tick st w (can_frame a.header a.payload.now) (earlier_fails x a.reply.now st w g) in
-    record {
+    let p = err_from_is_err_and c.from_residual.result c.from_residual.ensures.1 in
+    rw (p.1, p.2)
+    (record {
       answers = rw e (record { answer = refl; reply = refl; contents = refl; short = tt });
       keeps = rw e (record { places = refl; renewal = renewed-same a.places.now; pool = refl });
       small = tt;
       changes = refl;
-    }
+    })
 
-pub returns-in-Err-clause-theorems : goal.returns-in-Err-clause-theorems
-returns-in-Err-clause-theorems c = node_theorems _
+pub returns-in_err-check_call-clause-theorems : goal.returns-in_err-check_call-clause-theorems
+returns-in_err-check_call-clause-theorems c = node_theorems _
+
+pub returns-in_err-outcome-clause-ends : goal.returns-in_err-outcome-clause-ends
+returns-in_err-outcome-clause-ends c =
+    let a = c.args in
+    let x = fixed a.alias a.write_lengths (spaces_in a.spaces.now) a.flash.now in
+    let w = contents_in a.memory.now a.registers.now in
+    let st = state_in a.places.now a.pool.now in
+    let f = can_frame a.header a.payload.now in
+    let g = sym (by-sizes x w a.reply.now c.check_call.ensures.first) ∙ c.in_ok-check_call.was in
+    let l = c.check_later-later.ensures x w in
+    let n = c.in_err-outcome.ensures.ends in
+    let p = err_from_is_err_and c.from_residual-in_err-outcome.result c.from_residual-in_err-outcome.ensures.1 in
+    rw (p.1, p.2)
+    (record {
+      answers = rw (call-joined x a.reply.now a.tick a.places.now a.pool.now w f g l n) (record { answer = refl; reply = refl; contents = refl; short = tt });
+      keeps = call-keeps x a.reply.now a.tick a.places.now a.pool.now w f g l n;
+      small = tt;
+      changes = refl;
+    })
+
+pub returns-in_err-outcome-clause-theorems : goal.returns-in_err-outcome-clause-theorems
+returns-in_err-outcome-clause-theorems c = node_theorems _
 
 pub answer_outcome-requires : goal.answer_outcome-requires
 answer_outcome-requires c =
     let a = c.args in
     let x = fixed a.alias a.write_lengths (spaces_in a.spaces.now) a.flash.now in
     let w = contents_in a.memory.now a.registers.now in
-    let g = sym (by-sizes x w a.reply.now c.check_call-checked.ensures.first) ∙ c.in_default.is in
-    (passed-buffer x w a.reply.now g, search rules, ends-inside c.join-outcome.ensures.ends)
+    let g = sym (by-sizes x w a.reply.now c.check_call.ensures.first) ∙ c.in_ok-check_call.was in
+    (passed-buffer x w a.reply.now g, search rules, ends-inside c.in_ok-outcome.ensures.ends)
 
 pub returns-clause-ends : goal.returns-clause-ends
 returns-clause-ends c =
@@ -48,9 +73,9 @@ returns-clause-ends c =
     let w = contents_in a.memory.now a.registers.now in
     let st = state_in a.places.now a.pool.now in
     let f = can_frame a.header a.payload.now in
-    let g = sym (by-sizes x w a.reply.now c.check_call-checked.ensures.first) ∙ c.in_default.is in
+    let g = sym (by-sizes x w a.reply.now c.check_call.ensures.first) ∙ c.in_ok-check_call.was in
     let l = c.check_later-later.ensures x w in
-    let n = c.join-outcome.ensures.ends in
+    let n = c.in_ok-outcome.ensures.ends in
     let call = frame_call x a.reply.now a.tick st w f in
     let p = c.answer_outcome.ensures call.state in
     record {

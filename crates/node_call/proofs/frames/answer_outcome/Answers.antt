@@ -5,9 +5,6 @@ use native.Mathlib.Omega.{arith}
 use Rattle.node_call.proofs.FrameLaws.{inside-at}
 use Rattle.node_call.proofs.frames.answer_outcome.Goals as goal
 
-pub returns-in-Refused : goal.returns-in-Refused
-returns-in-Refused c = rw c.in-Refused.is (λ st. record { answer = refl; reply = refl; contents = refl; short = tt })
-
 pub returns-in-Ignored : goal.returns-in-Ignored
 returns-in-Ignored c = rw c.in-Ignored.is (λ st. record { answer = refl; reply = refl; contents = refl; short = tt })
 
@@ -20,13 +17,13 @@ returns-in-TransportRefusal c = rw c.in-TransportRefusal.is (λ st. record { ans
 pub returns-in-InFrame : goal.returns-in-InFrame
 returns-in-InFrame c = rw c.in-InFrame.is c.answer_datagram.ensures
 
-pub slice_bounds-datagram-start : goal.slice_bounds-datagram-start
-slice_bounds-datagram-start c =
+pub slice_bounds-answer_datagram-start : goal.slice_bounds-answer_datagram-start
+slice_bounds-answer_datagram-start c =
     let i = inside-at c.args.outcome _ _ c.in-InPool.is c.requires.2 in
     omega arith
 
-pub slice_bounds-datagram-end : goal.slice_bounds-datagram-end
-slice_bounds-datagram-end c =
+pub slice_bounds-answer_datagram-end : goal.slice_bounds-answer_datagram-end
+slice_bounds-answer_datagram-end c =
     let i = inside-at c.args.outcome _ _ c.in-InPool.is c.requires.2 in
     omega (arith, c.requires.1)
 

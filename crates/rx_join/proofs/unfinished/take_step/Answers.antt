@@ -5,7 +5,7 @@ use lib.Dec.{ltb}
 use borrow.Author.Rules.{rules}
 use Rattle.rx_spec.specs.Books.{ignored, no_answer, refuse, finish}
 use Rattle.rx_place_spec.specs.PlaceBytes.{state_in}
-use Rattle.rx_join_spec.specs.declared.JoinResult.TheVariants as outcome
+use Rattle.rx_join_spec.specs.declared.Outcome.TheVariants as outcome
 use Rattle.rx_join_spec.proofs.JoinLaws.{stays_joins, left-joins}
 use Rattle.rx_join_spec.proofs.LieLaws.{no_answer_lem, refused, opening, nowhere}
 use Rattle.rx_join.proofs.unfinished.take_step.Goals as goal
