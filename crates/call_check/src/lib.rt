@@ -11,6 +11,9 @@ ghost use Rattle.call_check.specs.Calls.{call_check};
 
 use call_error::{CallError, Checked};
 
+// The bytes that the longest reply takes: B6 refuses a shorter buffer.
+const LONGEST_REPLY: usize = 72;
+
 // The first of B11 to B14 and B2 to B5 that applies.
 fn check_description(alias: u16, spaces: &[u8], flash_len: usize, memory_len: usize) -> Checked
     ensures { result ≡ description_check alias (spaces_in spaces.now) flash_len memory_len }
@@ -36,7 +39,7 @@ pub fn check_call(
     ensures position { Positioned alias flash_len memory_len (spaces_in spaces.now) result }
 {
     check_description(alias, spaces, flash_len, memory_len)?;
-    if reply_len < 72 {
+    if reply_len < LONGEST_REPLY {
         return Err(CallError::B6ReplyBufferTooShort);
     }
     Ok(())

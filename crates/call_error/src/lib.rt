@@ -25,7 +25,7 @@ pub enum CallError {
 // What a check finds: nothing, or the first error that applies.
 pub type Checked = Result<(), CallError>;
 
-// The paper's number.
+// The paper's number. A match, since variants that bring a position have no number that `as` could read.
 pub fn number_of(error: CallError) -> u8
     ensures { result ≡ (refusal_of error).number }
 {

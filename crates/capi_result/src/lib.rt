@@ -11,6 +11,9 @@ use capi_numbers::{Kind, ResultBytes};
 use node_spec::FrameAnswer;
 use reply_answer::Answer;
 
+// The numbers are put into the result that C lends: `From`, which gives a value of its own, would make them elsewhere,
+// to be copied here.
+
 fn of_error(error: CallError, frame_count: usize, res: &mut ResultBytes)
     ensures { res.new ≡ result_bytes (in_bytes (error_numbers error frame_count)) }
 {

@@ -4,8 +4,8 @@
 
 use reply_answer::Answer;
 
-// What comes of a frame: it is ignored; it is joined or swallowed and not answered; a transport refusal, sent as Rejected
-// with its code; or the answer to the datagram that the frame finishes.
+// What comes of a frame: it is ignored; it is joined or swallowed and not answered; a transport refusal, sent as
+// Rejected with its code; or the answer to the datagram that the frame finishes.
 #[derive(Clone, Copy)]
 pub enum FrameAnswer {
     Ignored,

@@ -13,6 +13,11 @@ use can_frame::Role;
 use rx_join_spec::Outcome;
 use rx_step::Step;
 
+// A frame's source, data, tick and place are arguments of their own, and so are pool and places. Structs of them would
+// be no plainer: the clauses below name each one alone (`step_done .. source i payload.now tick`), only two of the
+// functions take all four, and half of them touch the places alone, whatever the pool. For the same reason `Lent`, a
+// fact about pool and data together, stays in the clauses of the five that take both.
+
 // The bytes of the pool for each place.
 const PLACE_ROOM: u32 = 72;
 
@@ -48,6 +53,14 @@ fn refuse_and_swallow(places: &mut [u8; 64], i: usize, source: u16, code: u16) -
     Outcome::TransportRefusal(code)
 }
 
+// Whether a place of a source that is being swallowed, with that length and tick, is as a frame at the tick `at` leaves
+// it.
+fn stands(len: u8, tick: u16, at: u16) -> bool
+    ensures { result ≡ (eqb len 0 && eqb tick at) }
+{
+    len == 0 && tick == at
+}
+
 // A Middle of a source that is being swallowed: it is the last accepted frame from now on. A place that has its tick
 // already keeps its bytes.
 fn swallow(places: &mut [u8; 64], i: usize, source: u16, len: u8, tick: u16) -> Outcome
@@ -55,9 +68,10 @@ fn swallow(places: &mut [u8; 64], i: usize, source: u16, len: u8, tick: u16) -> 
     ensures { (pool d : List ℕ) → Joins (step_done does.Swallow true source i d tick (state_in places.old pool)) d result
         places.old places.new pool }
 {
-    if len != 0 || rx_place::tick_at(places, i) != tick {
-        rx_place::swallow(places, i, source, tick);
+    if stands(len, rx_place::tick_at(places, i), tick) {
+        return Outcome::NoAnswer;
     }
+    rx_place::swallow(places, i, source, tick);
     Outcome::NoAnswer
 }
 
