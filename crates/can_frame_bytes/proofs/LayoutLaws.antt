@@ -1,16 +1,18 @@
 -- Laws of a frame in lent bytes: its head and its eight bytes in 16 that are lent, those in the place of frame n, and where none is put.
 -- Assumes nothing.
-use Prim.Native.Nat.{ℕ, zero, suc, ◌+◌, ◌-◌, ◌*◌, ◌/◌, ◌%◌, ◌≤◌, ◌<◌}
+use Prim.Native.Nat.{ℕ, ◌+◌, ◌-◌, ◌*◌, ◌/◌, ◌%◌, ◌≤◌, ◌<◌}
 use mathlib.Core.Path.{◌≡◌, refl, sym, ap, ◌∙◌}
 use mathlib.Core.List.{List, [], ◌∷◌, ◌++◌, append-nil, append_assoc}
-use native.Mathlib.Nat.{add-zero}
+use native.Mathlib.Numerals.{add-one}
+use native.Mathlib.Nat.{add-zero, add_assoc}
 use native.Mathlib.Omega.{arith}
-use lib.ListN.{length, take, drop, get_or, replicate, length-append, length-replicate, length-drop, drop_of_length-le, take-append-drop, get_or-append}
-use lib.Seq.{get_or-append-add, take_all, drop-drop, take_at, drop_at, length-take-le}
+use lib.ListN.{length, take, drop, get_or, replicate, length-append, length-replicate, drop_of_length-le, get_or-append}
+use lib.Seq.{drop-cons, get_or-append-add, take_all, drop-drop, take_at, drop_at, length-take-le}
 use borrow.Author.Tests.{le-leb, lt-leb}
 use borrow.Rule.Slice.PartMut.{put_mid}
+use Rattle.buffer.specs.BigEndian.{number_of}
 use Rattle.buffer.specs.Buffer.{put_at, placed}
-use Rattle.buffer.proofs.Laws.{placed-fits, placed-not, put_two, put_length, put_behind, drop-replicate}
+use Rattle.buffer.proofs.Laws.{placed-copy, placed-fits, placed-not, put_two, drop-replicate}
 use Rattle.can_frame.specs.Frame.{frame_of}
 use Rattle.can_frame.specs.declared.Frame.{Frame}
 use Rattle.buffer.specs.LittleEndian.{least_first}
@@ -26,58 +28,30 @@ frame-length header xs h = simp (length-append, length-replicate) (omega arith)
 abbrev head : ℕ → ℕ → List ℕ
 head header len = least_first header ++ least_first len
 
--- ---- elements of a list, one by one
-
-abbrev pub elements : ℕ → (ℕ → ℕ) → List ℕ
-elements zero f = []
-elements (suc n) f = f 0 ∷ elements n (λ (i : ℕ). f (suc i))
-
-first-are : (n : ℕ) (xs : List ℕ) → n ≤ length xs → elements n (λ (i : ℕ). get_or xs i 0) ≡ take n xs
-first-are zero xs h = refl
-first-are (suc n) [] h = absurd (omega arith)
-first-are (suc n) (x ∷ xs) h = ap (λ (l : List ℕ). x ∷ l) (first-are n xs (omega arith))
-
--- n from an index on; a sum that computes at every step
-abbrev pub onward : ℕ → ℕ → ℕ
-onward zero i = i
-onward (suc at) i = suc (onward at i)
-
-pub these_are : (at n : ℕ) (xs : List ℕ) → at + n ≤ length xs → elements n (λ (i : ℕ). get_or xs (onward at i) 0) ≡ take n (drop at xs)
-these_are zero n xs h = first-are n xs (omega arith)
-these_are (suc at) n [] h = absurd (omega arith)
-these_are (suc at) n (x ∷ xs) h = these_are at n xs (omega arith)
-
--- all from an index on
-pub rest-are : (at n : ℕ) (xs : List ℕ) → length xs ≡ at + n → elements n (λ (i : ℕ). get_or xs (onward at i) 0) ≡ drop at xs
-rest-are at n xs h =
-    let l : length (drop at xs) ≤ n = simp length-drop (omega arith) in
-    these_are at n xs (omega arith) ∙ take_all n (drop at xs) l
+-- eight of a list, one by one
+pub eight-from : (at : ℕ) (xs : List ℕ) → at + 8 ≤ length xs → take 8 (drop at xs)
+    ≡ get_or xs at 0 ∷ get_or xs (at + 1) 0 ∷ get_or xs (at + 2) 0 ∷ get_or xs (at + 3) 0 ∷ get_or xs (at + 4) 0 ∷ get_or xs (at + 5) 0 ∷ get_or xs (at + 6) 0
+    ∷ get_or xs (at + 7) 0 ∷ []
+eight-from at xs h =
+    let next : (k : ℕ) → k < 8 → drop (at + k) xs ≡ get_or xs (at + k) 0 ∷ drop (at + (k + 1)) xs =
+    λ k below. drop-cons xs (at + k) 0 (omega arith) ∙ rw (← add-one (at + k), add_assoc) in
+    let first : drop at xs ≡ get_or xs at 0 ∷ drop (at + 1) xs = simp add-zero at (next 0 (omega arith)) in
+    rw (first, next 1 (omega arith), next 2 (omega arith), next 3 (omega arith), next 4 (omega arith), next 5 (omega arith), next 6 (omega arith), next 7 (omega arith))
 
 -- eight bytes, and zeros behind fewer
 abbrev padded : List ℕ → List ℕ
 padded xs = xs ++ replicate (8 - length xs) 0
 
-module _ (xs buffer : List ℕ) (size : length buffer ≡ 16) {after : List ℕ} where
-  pub data-eight : length xs ≡ 8 → {first last mid : List ℕ} → first ≡ take 4 xs → mid ≡ placed 8 first buffer → last ≡ drop 4 xs → after ≡ placed 12 last mid
-      → after ≡ placed 8 (padded xs) buffer
-  data-eight h {first} {last} {mid} f p l q =
-      let four : length (take 4 xs) ≡ 4 = length-take-le 4 xs (omega arith) in
-      let rest : length (drop 4 xs) ≡ 4 = length-drop 4 xs ∙ omega arith in
+module _ (xs buffer : List ℕ) (size : length buffer ≡ 16) where
+  pub data-eight : (k : ℕ) {part : List ℕ} → length xs ≡ 8 → part ≡ xs → k ≡ 8 → put_mid 8 k buffer part ≡ placed 8 (padded xs) buffer
+  data-eight k h p e =
       let z : 8 - length xs ≡ 0 = omega arith in
-      let twelve : 12 ≡ 8 + length (take 4 xs) = omega arith in
-      let m : mid ≡ put_at 8 (take 4 xs) buffer = p ∙ ap (λ (d : List ℕ). placed 8 d buffer) f ∙ placed-fits 8 (take 4 xs) buffer (omega arith) in
-      let room : length (put_at 8 (take 4 xs) buffer) ≡ 16 = put_length 8 (take 4 xs) buffer (omega arith) (omega arith) ∙ size in
-      q
-      ∙ rw (l, m) (placed-fits 12 (drop 4 xs) (put_at 8 (take 4 xs) buffer) (omega arith))
-      ∙ ap (λ (at : ℕ). put_at at (drop 4 xs) (put_at 8 (take 4 xs) buffer)) twelve
-      ∙ put_behind 8 (take 4 xs) (drop 4 xs) buffer (omega arith)
-      ∙ ap (λ (d : List ℕ). put_at 8 d buffer) (take-append-drop 4 xs)
-      ∙ rw (z, append-nil) (sym (placed-fits 8 xs buffer (omega arith)))
+      rw (z, append-nil) (placed-copy 8 k buffer xs _ p (omega arith) (omega arith))
 
   -- zeros, and up to eight bytes over their front
-  pub data-few : {zeros : List ℕ} → zeros ≡ placed 8 (replicate 8 0) buffer → length xs ≤ 8 → after ≡ placed 8 xs zeros → after ≡ placed 8 (padded xs) buffer
+  pub data-few : {zeros after : List ℕ} → zeros ≡ placed 8 (replicate 8 0) buffer → length xs ≤ 8 → after ≡ placed 8 xs zeros → after ≡ placed 8 (padded xs) buffer
   unfolding put_at
-  data-few {zeros} q h r =
+  data-few {zeros} {after} q h r =
       let t : length (take 8 buffer) ≡ 8 = length-take-le 8 buffer (omega arith) in
       let l : length (padded xs) ≡ 8 = simp (length-append, length-replicate) (omega arith) in
       let none : drop 16 buffer ≡ [] = drop_of_length-le buffer {i = 16} (omega arith) in
@@ -89,18 +63,25 @@ module _ (xs buffer : List ℕ) (size : length buffer ≡ 16) {after : List ℕ}
       ∙ placed-fits 8 xs zeros (omega arith)
       ∙ rw (z, take_at (take 8 buffer) (replicate 8 0) 8 t, behind, placed-fits 8 (padded xs) buffer (omega arith), l, none, append-nil) (append_assoc (take 8 buffer) xs (replicate (8 - length xs) 0))
 
+-- the head, and the eight bytes behind it
+pub bytes-into : (header len : ℕ) (xs buffer : List ℕ) {front first after : List ℕ} → length buffer ≡ 16 → length xs ≡ 8 → front ≡ head header len
+    → first ≡ placed 0 front buffer → after ≡ placed 8 xs first → after ≡ frame_bytes (frame_with header len xs)
+unfolding frame_bytes
+bytes-into header len xs buffer size h e p q =
+    let all : List ℕ = head header len ++ xs in
+    let m : length all ≡ 16 = length-append (head header len) xs ∙ omega arith in
+    let none : drop (length all) buffer ≡ [] = drop_of_length-le buffer {i = length all} (omega arith) in
+    put_two (head header len) xs buffer 8 refl (omega arith) (p ∙ ap (λ (x : List ℕ). placed 0 x buffer) e) q
+    ∙ ap (λ (l : List ℕ). all ++ l) none
+    ∙ append-nil all
+
 -- the head, and the data behind it
-module _ (header : ℕ) (xs buffer : List ℕ) (size : length buffer ≡ 16) (h : length xs ≤ 8) {front first after : List ℕ} where
-  pub frame-into : front ≡ head header (length xs) → first ≡ placed 0 front buffer → after ≡ placed 8 (padded xs) first → after ≡ frame_bytes (frame_of header xs)
-  unfolding frame_bytes frame_of
-  frame-into e p q =
-      let all : List ℕ = head header (length xs) ++ padded xs in
-      let l : length (padded xs) ≡ 8 = simp (length-append, length-replicate) (omega arith) in
-      let m : length all ≡ 16 = length-append (head header (length xs)) (padded xs) ∙ omega arith in
-      let none : drop (length all) buffer ≡ [] = drop_of_length-le buffer {i = length all} (omega arith) in
-      put_two (head header (length xs)) (padded xs) buffer 8 refl (omega arith) (p ∙ ap (λ (x : List ℕ). placed 0 x buffer) e) q
-      ∙ ap (λ (l : List ℕ). all ++ l) none
-      ∙ append-nil all
+pub frame-into : (header : ℕ) (xs buffer : List ℕ) {front first after : List ℕ} → length buffer ≡ 16 → length xs ≤ 8 → front ≡ head header (length xs)
+    → first ≡ placed 0 front buffer → after ≡ placed 8 (padded xs) first → after ≡ frame_bytes (frame_of header xs)
+unfolding frame_of
+frame-into header xs buffer size h e p q =
+    let l : length (padded xs) ≡ 8 = simp (length-append, length-replicate) (omega arith) in
+    bytes-into header (length xs) (padded xs) buffer size l e p q
 
 -- ---- frame n
 
@@ -133,10 +114,14 @@ module _ (n header : ℕ) (xs before : List ℕ) where
 
 -- ---- a frame and its 16 bytes
 
-pub bytes-are : (header len : ℕ) (xs : List ℕ) {front : List ℕ} → length xs ≡ 8 → front ≡ head header len
-    → elements 8 (λ (i : ℕ). get_or front i 0) ++ elements 8 (λ (i : ℕ). get_or xs i 0) ≡ frame_bytes (frame_with header len xs)
-unfolding frame_bytes
-bytes-are header len xs h e = rw (e, rest-are 0 8 xs h)
+-- the frame that is made of three reads
+pub frame-read : (bytes : List ℕ) (at k : ℕ) {h l : ℕ} {eight : List ℕ} → at + 16 ≤ length bytes → k ≡ 8
+    → h ≡ number_of (get_or bytes (at + 3) 0) (get_or bytes (at + 2) 0) (get_or bytes (at + 1) 0) (get_or bytes at 0)
+    → l ≡ number_of (get_or bytes (at + 4 + 3) 0) (get_or bytes (at + 4 + 2) 0) (get_or bytes (at + 4 + 1) 0) (get_or bytes (at + 4) 0)
+    → eight ≡ take k (drop (at + 8) bytes)
+    → ◌≡◌ {A = Frame} (record { header = h; len = l; bytes = eight }) (frame_in_bytes bytes at)
+unfolding frame_in_bytes
+frame-read bytes at k h e p q r = rw (p, q, r, e, eight-from (at + 8) bytes (omega arith)) (simp add_assoc)
 
 -- the number of four bytes, least significant first
 number-back : (x : ℕ) → x / 16777216 * 16777216 + x / 65536 % 256 * 65536 + x / 256 % 256 * 256 + x % 256 ≡ x
@@ -165,7 +150,7 @@ module _ (front : List ℕ) (f : Frame) (rest : List ℕ) (full : length f.bytes
       (rw (at_first, at_next 1, at_next 2, at_next 3) (number-back f.header))
       (rw (at_next 4, at_next 5, at_next 6, at_next 7) (number-back f.len))
       (rw (at_next 8, at_next 9, at_next 10, at_next 11, at_next 12, at_next 13, at_next 14, at_next 15)
-      (rw (data-at 0 (omega arith), data-at 1 (omega arith), data-at 2 (omega arith), data-at 3 (omega arith), data-at 4 (omega arith), data-at 5 (omega arith), data-at 6 (omega arith), data-at 7 (omega arith)) (rest-are 0 8 f.bytes full)))
+      (rw (data-at 0 (omega arith), data-at 1 (omega arith), data-at 2 (omega arith), data-at 3 (omega arith), data-at 4 (omega arith), data-at 5 (omega arith), data-at 6 (omega arith), data-at 7 (omega arith)) (sym (eight-from 0 f.bytes (omega arith)) ∙ take_all 8 f.bytes (omega arith))))
 
 pub frame-again : FrameAgain
 frame-again front f rest full = frame_back front f rest full (length front) refl

@@ -1,10 +1,10 @@
 -- `can_frame_bytes::bytes_of` meets its contract.
 -- Assumes nothing.
-use borrow.Author.Rules.{rules}
-use Rattle.can_frame_bytes.proofs.LayoutLaws.{bytes-are}
+use Rattle.std.proofs.Common.{rules, refl}
+use Rattle.can_frame_bytes.proofs.LayoutLaws.{bytes-into}
 use Rattle.can_frame_bytes.proofs.bytes_of.Goals as goal
 
 pub returns : goal.returns
 returns c =
     let a = c.args in
-    bytes-are a.header a.len _ (search (rules, c.well_formed)) c.head_of-head.ensures
+    bytes-into a.header a.len a.bytes _ refl (search (rules, c.well_formed)) c.head_of.ensures c.put.ensures c.put-2.ensures

@@ -1,15 +1,13 @@
 -- `can_frame_bytes::put_data` meets its contract.
 -- Assumes nothing.
-use native.Mathlib.Omega.{arith}
+use Rattle.std.proofs.Common.{arith}
 use Rattle.can_frame_bytes.proofs.LayoutLaws.{data-eight, data-few}
 use Rattle.can_frame_bytes.proofs.put_data.Goals as goal
 
 pub returns-then-part-eq8 : goal.returns-then-part-eq8
 returns-then-part-eq8 c =
     let a = c.args in
-    data-eight a.part.now a.frame.now (omega arith) (omega arith) c.first_four-first.ensures c.put.ensures c.last_four-last.ensures c.put-then-part-eq8.ensures
+    data-eight a.part.now a.frame.now (omega arith) _ (omega arith) c.copy_from_slice.ensures.after (omega arith)
 
 pub returns : goal.returns
-returns c =
-    let zeros = c.put-2.ensures in
-    data-few _ _ (omega arith) zeros (omega arith) c.put-3.ensures
+returns c = data-few _ _ (omega arith) c.put.ensures (omega arith) c.put-2.ensures
