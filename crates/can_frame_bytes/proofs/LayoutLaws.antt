@@ -7,12 +7,13 @@ use native.Mathlib.Numerals.{add-one}
 use native.Mathlib.Nat.{add-zero, add_assoc}
 use native.Mathlib.Omega.{arith}
 use lib.ListN.{length, take, drop, get_or, replicate, length-append, length-replicate, drop_of_length-le, get_or-append}
-use lib.Seq.{drop-cons, get_or-append-add, take_all, drop-drop, take_at, drop_at, length-take-le}
+use lib.Seq.{drop-cons, take-length, get_or-append-add, take_all, drop-drop, take_at, drop_at, length-take-le}
 use borrow.Author.Tests.{le-leb, lt-leb}
 use borrow.Rule.Slice.PartMut.{put_mid}
+use Rattle.std.proofs.lemmas.Slice.{put_mid-paste}
 use Rattle.buffer.specs.BigEndian.{number_of}
 use Rattle.buffer.specs.Buffer.{put_at, placed}
-use Rattle.buffer.proofs.Laws.{placed-copy, placed-fits, placed-not, put_two, drop-replicate}
+use Rattle.buffer.proofs.Laws.{placed-fits, placed-not, put_two, drop-replicate}
 use Rattle.can_frame.specs.Frame.{frame_of}
 use Rattle.can_frame.specs.declared.Frame.{Frame}
 use Rattle.buffer.specs.LittleEndian.{least_first}
@@ -43,10 +44,12 @@ abbrev padded : List ℕ → List ℕ
 padded xs = xs ++ replicate (8 - length xs) 0
 
 module _ (xs buffer : List ℕ) (size : length buffer ≡ 16) where
-  pub data-eight : (k : ℕ) {part : List ℕ} → length xs ≡ 8 → part ≡ xs → k ≡ 8 → put_mid 8 k buffer part ≡ placed 8 (padded xs) buffer
-  data-eight k h p e =
+  -- eight bytes are copied into theirs
+  pub data-eight : {part : List ℕ} → length xs ≡ 8 → part ≡ xs → put_mid 8 8 buffer part ≡ placed 8 (padded xs) buffer
+  unfolding put_at
+  data-eight h p =
       let z : 8 - length xs ≡ 0 = omega arith in
-      rw (z, append-nil) (placed-copy 8 k buffer xs _ p (omega arith) (omega arith))
+      rw (z, append-nil, placed-fits 8 xs buffer (omega arith)) (put_mid-paste 8 8 buffer _ xs (length xs) p h refl ∙ rw take-length)
 
   -- zeros, and up to eight bytes over their front
   pub data-few : {zeros after : List ℕ} → zeros ≡ placed 8 (replicate 8 0) buffer → length xs ≤ 8 → after ≡ placed 8 xs zeros → after ≡ placed 8 (padded xs) buffer

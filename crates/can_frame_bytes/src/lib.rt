@@ -25,7 +25,7 @@ fn put_data(frame: &mut [u8], part: &[u8])
     ensures { frame.new ≡ placed 8 (part.now ++ replicate (8 - length part.now) 0) frame.old }
 {
     if part.len() == 8 {
-        frame[8..].copy_from_slice(part);
+        frame[8..16].copy_from_slice(part);
         return;
     }
     buffer::put(frame, 8, &[0u8; 8]);
