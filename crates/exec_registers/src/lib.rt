@@ -2,32 +2,28 @@
 // said by specs/Registers.antt alone.
 #![tactic(auto)]
 
-ghost use Rattle.std.specs.Prelude.{◌≡◌, length};
+ghost use Rattle.std.specs.Prelude.{◌≡◌};
 ghost use Rattle.buffer.specs.Buffer.{put_at};
 ghost use Rattle.exec_registers.specs.Registers.{registers_in, registers_at_start, with_lock, BytesTold};
 
 pub type Registers = [u8; 6];
 
 // The registers at the start: nobody holds the lock.
+#[tactic(auto, unfolding(crate::specs::Registers::registers_in))]
 pub fn new_registers() -> Registers
     ensures { registers_in result ≡ registers_at_start }
 {
     [0u8; 6]
 }
 
-// The six bytes of a field.
-fn six_of(field: &[u8]) -> [u8; 6]
-    requires { length field.now ≡ 6 }
-    ensures { result ≡ field.now }
-{
-    [field[0], field[1], field[2], field[3], field[4], field[5]]
-}
-
 // The lock memory.
+#[tactic(auto, unfolding(crate::specs::Registers::registers_in))]
 pub fn lock_in(registers: &Registers) -> [u8; 6]
     ensures { result ≡ (registers_in registers.now).lock }
 {
-    six_of(buffer::part(registers, 0, 6))
+    let mut lock = [0u8; 6];
+    lock.copy_from_slice(&registers[0..6]);
+    lock
 }
 
 // Puts another lock memory; every other field keeps its bytes.

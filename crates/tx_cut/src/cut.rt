@@ -6,7 +6,7 @@ ghost use Rattle.can_frame_bytes.specs.Layout.{frames_bytes, frame_placed};
 ghost use Rattle.tx_cut_spec.specs.Cutting.{rest_frames, frames_of};
 
 // The top five bits of a header whose frame is a whole datagram, the first of several, one of those between, and the
-// last.
+// last. They go into a header as they are: an enum would need a table that gives these numbers back.
 const SINGLE: u32 = 0x1A;
 
 const FIRST: u32 = 0x1B;
@@ -47,7 +47,8 @@ pub fn cut_rest(rest: &[u8], aliases: u32, frames: &mut [u8; 160], n: u32) -> u3
 }
 
 // Up to 8 bytes go in a Single; otherwise the first 8 go in a First, and the rest is cut by the rule above. The frames
-// are put into the lent bytes from frame n on; the number of all is returned.
+// are put into the lent bytes from frame n on; the number of all is returned. (One function for this and `cut_rest` would
+// take two kinds of frame, and its clauses would name both of the definitions `frames_of` and `rest_frames` by cases.)
 pub fn cut_whole(datagram: &[u8], aliases: u32, frames: &mut [u8; 160], n: u32) -> u32
     requires { (aliases < 16777216)
         × (n + length (frames_of (aliases / 4096) (aliases % 4096) datagram.now) ≤ 10) }

@@ -9,18 +9,12 @@ ghost use Rattle.tx_cut_spec.specs.Cutting.{aliases};
 pub fn are_aliases(a: u16, b: u16) -> bool
     ensures { result ≡ aliases a b }
 {
-    if 4095 < a {
-        return false;
-    }
-    b <= 4095
+    a <= 4095 && b <= 4095
 }
 
 // Whether B9 lets a datagram of so many bytes be cut.
 pub fn is_cut(size: usize, destination: u16, source: u16) -> bool
     ensures { result ≡ (leb size 72 && aliases destination source) }
 {
-    if 72 < size {
-        return false;
-    }
-    are_aliases(destination, source)
+    size <= 72 && are_aliases(destination, source)
 }

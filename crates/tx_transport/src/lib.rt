@@ -36,8 +36,8 @@ pub fn received_ok(board: u16, tool: u16, flags: u8, frames: &mut [u8; 160]) -> 
     ensures count { result ≡ length (received_ok board tool flags) }
     ensures bytes { frames.new ≡ over (frames_bytes (received_ok board tool flags)) frames.old }
 {
-    let part = [(tool / 256) as u8, (tool % 256) as u8, flags];
-    put_reply(frames, RECEIVED_OK, board, tool, &part)
+    let [high, low] = tool.to_be_bytes();
+    put_reply(frames, RECEIVED_OK, board, tool, &[high, low, flags])
 }
 
 // Received OK with its flags, and behind it the frames of a reply: 1 to 10, or 0 and no frame made where an alias is
@@ -75,11 +75,13 @@ pub fn rejected(board: u16, tool: u16, code: u16, frames: &mut [u8; 160]) -> usi
     ensures count { result ≡ length (rejected_with board tool code) }
     ensures bytes { frames.new ≡ over (frames_bytes (rejected_with board tool code)) frames.old }
 {
-    let part = [
-        (tool / 256) as u8,
-        (tool % 256) as u8,
-        (code / 256) as u8,
-        (code % 256) as u8,
-    ];
-    put_reply(frames, REJECTED, board, tool, &part)
+    let [high, low] = tool.to_be_bytes();
+    let [code_high, code_low] = code.to_be_bytes();
+    put_reply(
+        frames,
+        REJECTED,
+        board,
+        tool,
+        &[high, low, code_high, code_low],
+    )
 }
