@@ -5,7 +5,7 @@ ghost use Rattle.std.specs.Prelude.{◌≡◌, min};
 ghost use Rattle.capi_numbers.specs.Numbers.{kind_written, kind_replied, refusal_numbers, numbers, in_bytes, result_bytes};
 
 // What stands in the place of a position where there is none. No position is so great, and a position of 0 is the first
-// space's.
+// space's. It is no `Option`, because it is C's: bujorelm.h has it as BUJORELM_NO_POSITION.
 pub const NO_POSITION: u8 = 255;
 
 // The kinds of what comes of a call, with their numbers: refused because of the error `error` of the caller, with the
@@ -103,7 +103,8 @@ pub fn of_refusal(error: u8, position: u8, frame_count: usize, res: &mut ResultB
     )
 }
 
-// Any other kind, by its number, with its flags and its code.
+// Any other kind, with its flags and its code. It is given by its number, as it stands for C: to take a `Kind` would ask
+// more of callers.
 pub fn of_kind(kind: u32, flags: u8, code: u16, frame_count: usize, res: &mut ResultBytes)
     ensures { res.new ≡ result_bytes (in_bytes (numbers kind flags code 0 0 0 frame_count)) }
 {

@@ -39,6 +39,7 @@ fn put_access(
 }
 
 // A command without an address, put if the buffer has room.
+#[tactic(auto, using(buffer::proofs::Laws::put_one))]
 fn put_whole(buffer: &mut [u8], command: &[u8]) -> Result<usize, WriteError>
     requires { length command.now ≤ 72 }
     ensures answer { result ≡ command_answer (in_room command.now (length buffer.old)) }

@@ -13,7 +13,7 @@ pub enum WriteError {
     NoRoom,
 }
 
-// The form in which the writer names a space.
+// The form in which the writer names a space. It is no `From<u8>`: a board takes other forms of the same space too.
 pub fn form_for(space: u8) -> Form
     ensures { result ≡ form_for space }
 {
