@@ -13,7 +13,7 @@ use borrow.Rule.Slice.PartMut.{put_mid}
 use Rattle.std.proofs.lemmas.Slice.{put_mid-paste}
 use Rattle.buffer.specs.BigEndian.{number_of}
 use Rattle.buffer.specs.Buffer.{put_at, placed}
-use Rattle.buffer.proofs.Laws.{placed-fits, placed-not, put_two, drop-replicate}
+use Rattle.buffer.proofs.Laws.{placed-fits, placed-not, put_one, put_two, drop-replicate}
 use Rattle.can_frame.specs.Frame.{frame_of}
 use Rattle.can_frame.specs.declared.Frame.{Frame}
 use Rattle.buffer.specs.LittleEndian.{least_first}
@@ -125,6 +125,10 @@ pub frame-read : (bytes : List ℕ) (at k : ℕ) {h l : ℕ} {eight : List ℕ} 
     → ◌≡◌ {A = Frame} (record { header = h; len = l; bytes = eight }) (frame_in_bytes bytes at)
 unfolding frame_in_bytes
 frame-read bytes at k h e p q r = rw (p, q, r, e, eight-from (at + 8) bytes (omega arith)) (simp add_assoc)
+
+-- eight bytes put over eight
+pub eight-put : (xs : List ℕ) {after : List ℕ} → length xs ≡ 8 → after ≡ placed 0 xs (replicate 8 0) → after ≡ xs
+eight-put xs e q = put_one xs (replicate 8 0) (rw e (omega arith)) q ∙ rw e (append-nil xs)
 
 -- the number of four bytes, least significant first
 number-back : (x : ℕ) → x / 16777216 * 16777216 + x / 65536 % 256 * 65536 + x / 256 % 256 * 256 + x % 256 ≡ x

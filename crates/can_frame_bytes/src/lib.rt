@@ -10,11 +10,12 @@ ghost use Rattle.can_frame_bytes.specs.Layout.{frame_with, frame_bytes, frame_in
 use can_frame::Frame;
 
 // What lies before the data of a frame: its header and the number of its data bytes, each least significant byte first.
+// By `buffer::bytes`, since hexadecimal digits come this way: std's `to_le_bytes` has a quotient before it is optimised.
 fn head_of(header: u32, len: u32) -> [u8; 8]
     ensures { result ≡ least_first header ++ least_first len }
 {
-    let [h0, h1, h2, h3] = header.to_le_bytes();
-    let [n0, n1, n2, n3] = len.to_le_bytes();
+    let [h3, h2, h1, h0] = buffer::bytes(header);
+    let [n3, n2, n1, n0] = buffer::bytes(len);
     [h0, h1, h2, h3, n0, n1, n2, n3]
 }
 
@@ -69,7 +70,7 @@ pub fn frame_at(bytes: &[u8], at: usize) -> Frame
     ensures { result ≡ frame_in_bytes bytes.now at }
 {
     let mut data = [0u8; 8];
-    data.copy_from_slice(&bytes[at + 8..at + 16]);
+    buffer::put(&mut data, 0, &bytes[at + 8..at + 16]);
     Frame {
         header: buffer::number_at(bytes, at),
         len: buffer::number_at(bytes, at + 4),
