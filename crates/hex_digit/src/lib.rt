@@ -5,20 +5,16 @@
 ghost use Rattle.std.specs.Prelude.{◌≡◌, ◌+◌, ◌*◌, ◌/◌, ◌%◌};
 ghost use Rattle.hex_digit.specs.Digit.{digit_value, digit_of};
 
-// The value of a digit, and 16 for any other byte. A difference that wraps is great, so that one test asks for both
-// ends of a range.
+// The value of a digit, and 16 for any other byte.
+#[tactic(auto, unfolding(crate::specs::Digit::digit_value))]
 pub fn value_of(c: u8) -> u8
     ensures { result ≡ digit_value c }
 {
-    let decimal = std::num::wrapping_sub_u8(c, b'0');
-    if decimal < 10 {
-        return decimal;
+    match c {
+        b'0'..=b'9' => c - b'0',
+        b'A'..=b'F' => c - b'A' + 10,
+        _ => 16,
     }
-    let letter = std::num::wrapping_sub_u8(c, b'A');
-    if letter < 6 {
-        return letter + 10;
-    }
-    16
 }
 
 // The two digits of a byte in one number: the first, and 256 times the second. Both are computed at once: 6 more than a
@@ -28,7 +24,7 @@ pub fn value_of(c: u8) -> u8
 pub fn digits_of(b: u8) -> u32
     ensures { result ≡ digit_of (b / 16) + digit_of (b % 16) * 256 }
 {
-    let values = (b >> 4) as u32 + (((b & 15) as u32) << 8);
+    let values = u32::from(b >> 4) + (u32::from(b & 15) << 8);
     let letters = (values + 0x0606) & 0x1010;
     values + 0x3030 + ((letters >> 1) - (letters >> 4))
 }

@@ -67,14 +67,16 @@ module _ (s o : List ℕ) (at i : ℕ) {o' : List ℕ} (p : Put s o at i o') (k 
   pub put_byte : {o'' : List ℕ} → i < length s → o'' ≡ put_at (at + i + i) (hex_digits 2 (get_or s i 0)) o' → Put s o at (i + 1) o''
   put_byte h e = let two : at + i + i ≡ at + i * 2 = omega arith in put_next 1 (i + 1) refl (omega arith) (e ∙ rw (two, digits-of_one s i h))
 
--- n bytes more, where the first were put from index `from` on
-pub put_turn : (s o : List ℕ) (at from i n : ℕ) {o' o'' : List ℕ} → Put (drop from s) o (at + from * 2) (i - from) o' → at + length s * 2 ≤ length o → from ≤ i → i + n ≤ length s
-    → o'' ≡ put_at (at + i + i) (digits_of (take (i + n - i) (drop i s))) o' → Put (drop from s) o (at + from * 2) (i + n - from) o''
-put_turn s o at from i n {o'} p k f h e =
+-- eight bytes more, where k times eight were put from index `from` on
+pub put_turn : (s o : List ℕ) (at from k : ℕ) {o' o'' : List ℕ} → Put (drop from s) o (at + from * 2) (k * 8) o' → at + length s * 2 ≤ length o → from + (k + 1) * 8 ≤ length s
+    → o'' ≡ put_at (at + (from + k * 8) + (from + k * 8)) (digits_of (take (from + k * 8 + 8 - (from + k * 8)) (drop (from + k * 8) s))) o'
+    → Put (drop from s) o (at + from * 2) ((k + 1) * 8) o''
+put_turn s o at from k {o'} p f h e =
     let l = length-drop from s in
-    let place : at + i * 2 ≡ at + from * 2 + (i - from) * 2 = omega arith in
-    let rest : drop i s ≡ drop (i - from) (drop from s) = let j : from + (i - from) ≡ i = omega arith in rw (drop-drop (i - from) from s, j) in
-    put_next (drop from s) o (at + from * 2) (i - from) p (omega arith) n (i + n - from) (omega arith) (omega arith) (of_part s i n o' at e ∙ rw (place, rest))
+    let i : ℕ = from + k * 8 in
+    let place : at + i * 2 ≡ at + from * 2 + k * 8 * 2 = omega arith in
+    let rest : drop i s ≡ drop (k * 8) (drop from s) = rw drop-drop in
+    put_next (drop from s) o (at + from * 2) (k * 8) p (omega arith) 8 ((k + 1) * 8) (omega arith) (omega arith) (of_part s i 8 o' at e ∙ rw (place, rest))
 
 -- the two digits of a byte, stored one by one
 pub put_two : (o : List ℕ) (at b : ℕ) → b < 256 → at + 1 < length o → set (set o at (digit_of (b / 16))) (at + 1) (digit_of (b % 16)) ≡ put_at at (hex_digits 2 b) o

@@ -21,11 +21,8 @@ fn put_all(bytes: &[u8], out: &mut [u8], at: usize)
     requires { at + length bytes.now * 2 ≤ length out.old }
     ensures { out.new ≡ put_at at (digits_of bytes.now) out.old }
 {
-    let n = bytes.len();
-    let mut i: usize = 0;
-    while i < n {
+    for i in 0..bytes.len() {
         put_pair(bytes[i], out, at + i + i);
-        i += 1;
     }
 }
 
@@ -51,14 +48,13 @@ fn put_eights(bytes: &[u8], from: usize, out: &mut [u8], at: usize) -> usize
     ensures out { out.new ≡ put_at (at + from * 2) (digits_of
         (take ((length bytes.now - from) / 8 * 8) (drop from bytes.now))) out.old }
 {
-    let n = bytes.len();
-    let mut i = from;
-    while 8 <= n - i {
+    let eights = (bytes.len() - from) >> 3;
+    for k in 0..eights {
+        let i = from + (k << 3);
         let end = i + 8;
         put_all(&bytes[i..end], out, at + i + i);
-        i = end;
     }
-    i
+    from + (eights << 3)
 }
 
 // Puts the digits of all bytes, in parts of 2, 4, 8 and 1: of a part whose length is a numeral the digits are computed
@@ -81,13 +77,7 @@ pub fn put_digits(bytes: &[u8], out: &mut [u8], at: usize)
 {
     let size = out.len();
     let n = bytes.len();
-    if size < at {
-        return;
-    }
-    if size - at < n {
-        return;
-    }
-    if size - at - n < n {
+    if size < at || size - at < n || size - at - n < n {
         return;
     }
     put_parts(bytes, out, at);
@@ -99,10 +89,7 @@ pub fn put_number(x: u32, out: &mut [u8], at: usize)
     ensures place_value { PlaceValue 8 x }
 {
     let size = out.len();
-    if size < at {
-        return;
-    }
-    if size - at < 8 {
+    if size < at || size - at < 8 {
         return;
     }
     let bytes = buffer::bytes(x);

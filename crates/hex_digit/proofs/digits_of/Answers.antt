@@ -31,4 +31,4 @@ returns c =
     let b = c.args.b in
     let h : b < 256 = omega arith in
     let further = seven (letters_of b) ((b / 16 + 6) / 16) ((b % 16 + 6) / 16) (which b h) (omega arith) (omega arith) in
-    omega (arith, values b h, digit_sum (b / 16) (omega arith), digit_sum (b % 16) (omega arith))
+    rw (c.from.ensures, c.from-2.ensures) (omega (arith, values b h, digit_sum (b / 16) (omega arith), digit_sum (b % 16) (omega arith)))

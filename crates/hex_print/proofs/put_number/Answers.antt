@@ -13,12 +13,6 @@ returns-then-size-at-clause-out_value c = rw (← four_bytes c.args.x) (no_room 
 pub returns-then-size-at-clause-place_value : goal.returns-then-size-at-clause-place_value
 returns-then-size-at-clause-place_value c = place-value 8 c.args.x (omega arith)
 
-pub returns-then-size-at-lt8-clause-out_value : goal.returns-then-size-at-lt8-clause-out_value
-returns-then-size-at-lt8-clause-out_value c = rw (← four_bytes c.args.x) (no_room (bytes_of c.args.x) _ _ (omega arith))
-
-pub returns-then-size-at-lt8-clause-place_value : goal.returns-then-size-at-lt8-clause-place_value
-returns-then-size-at-lt8-clause-place_value c = place-value 8 c.args.x (omega arith)
-
 pub returns-clause-out_value : goal.returns-clause-out_value
 returns-clause-out_value c =
     let e = c.put_all.ensures in
