@@ -9,28 +9,10 @@ ghost use Rattle.gridconnect_print.specs.Line.{frame_text, unknown_text, Printed
 use can_frame::Frame;
 
 // Whether a buffer of `size` bytes has `n` of them from index `at` on.
-fn has_room(size: usize, at: usize, n: usize) -> bool
+pub fn has_room(size: usize, at: usize, n: usize) -> bool
     ensures { result ≡ leb (at + n) size }
 {
-    if size < at {
-        return false;
-    }
-    n <= size - at
-}
-
-fn put_byte(out: &mut [u8], at: usize, a: u8)
-    requires { at < length out.old }
-    ensures { out.new ≡ placed at (a ∷ []) out.old }
-{
-    out[at] = a;
-}
-
-fn put_pair(out: &mut [u8], at: usize, a: u8, b: u8)
-    requires { at + 1 < length out.old }
-    ensures { out.new ≡ placed at (a ∷ b ∷ []) out.old }
-{
-    out[at] = a;
-    out[at + 1] = b;
+    at <= size && n <= size - at
 }
 
 // Puts what a line starts with: `:X`, the header's digits, `N`.
@@ -38,9 +20,9 @@ fn put_head(header: u32, out: &mut [u8], at: usize)
     requires { at + 11 ≤ length out.old }
     ensures { out.new ≡ placed at (58 ∷ 88 ∷ (hex_digits 8 header ++ 78 ∷ [])) out.old }
 {
-    put_pair(out, at, b':', b'X');
+    buffer::put(out, at, b":X");
     hex_print::put_number(header, out, at + 2);
-    put_byte(out, at + 10, b'N');
+    buffer::put(out, at + 10, b"N");
 }
 
 // Puts the frame's line and a newline into `out` from index `at` on.
@@ -52,7 +34,7 @@ fn put_line(frame: Frame, out: &mut [u8], at: usize)
     let bytes = frame.bytes;
     put_head(frame.header, out, at);
     hex_print::put_digits(&bytes[..n], out, at + 11);
-    put_pair(out, at + (11 + n + n), b';', b'\n');
+    buffer::put(out, at + (11 + n + n), b";\n");
 }
 
 // Prints the frame's line and a newline into `out` from index `at` on and returns the index past it; where it does not
@@ -79,6 +61,6 @@ pub fn print_unknown(out: &mut [u8], at: usize) -> usize
     if !has_room(out.len(), at, 2) {
         return at;
     }
-    put_pair(out, at, b'?', b'\n');
+    buffer::put(out, at, b"?\n");
     at + 2
 }

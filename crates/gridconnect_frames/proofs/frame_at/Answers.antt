@@ -1,22 +1,42 @@
--- `frame_at` meets its contract.
+-- `frame_at` meets its contract: the sixteen bytes that are copied are those from its index on.
 -- Assumes nothing.
-use mathlib.Core.Path.{◌≡◌}
-use mathlib.Core.List.{List}
-use Prim.Native.Nat.{ℕ, ◌+◌, ◌*◌, ◌%◌, ◌^◌}
-use native.Mathlib.Nat.{add_assoc}
-use native.Mathlib.Omega.{arith}
-use lib.ListN.{get_or}
+use Rattle.std.proofs.Common.{◌≡◌, ℕ, ◌+◌, ◌-◌, ◌*◌, ◌%◌, ◌^◌, ◌<◌, List, get_or, take, drop, ap, ◌∙◌, arith}
+use native.Mathlib.Nat.{add-zero}
+use Rattle.std.proofs.lemmas.List.{get_or-take, get_or-drop}
 use Rattle.can_frame_bytes.specs.Layout.{frame_in_bytes}
 use Rattle.gridconnect_frames.proofs.frame_at.Goals as goal
 
--- an index in the number of data bytes
-behind : (bytes : List ℕ) (at k : ℕ) → get_or bytes (at + 4 + k) 0 ≡ get_or bytes (at + (4 + k)) 0
-behind bytes at k = rw (add_assoc at 4 k)
+module _ (s : List ℕ) (at : ℕ) where
+  byte : (i : ℕ) → i < 16 → get_or (take 16 (drop at s)) i 0 ≡ get_or s (at + i) 0
+  byte i h = get_or-take 16 (drop at s) i 0 h ∙ get_or-drop at s i 0
+
+  copied : frame_in_bytes (take 16 (drop at s)) 0 ≡ frame_in_bytes s at
+  unfolding frame_in_bytes
+  copied =
+      let first : get_or (take 16 (drop at s)) 0 0 ≡ get_or s at 0 = byte 0 (omega arith) ∙ rw (add-zero at) in
+      simp (
+        first,
+        byte 1 (omega arith),
+        byte 2 (omega arith),
+        byte 3 (omega arith),
+        byte 4 (omega arith),
+        byte 5 (omega arith),
+        byte 6 (omega arith),
+        byte 7 (omega arith),
+        byte 8 (omega arith),
+        byte 9 (omega arith),
+        byte 10 (omega arith),
+        byte 11 (omega arith),
+        byte 12 (omega arith),
+        byte 13 (omega arith),
+        byte 14 (omega arith),
+        byte 15 (omega arith),
+      )
 
 pub returns : goal.returns
-unfolding frame_in_bytes
 returns c =
-    let a = c.args in
-    let start : a.i * 16 % 2 ^ 64 ≡ 16 * a.i = omega arith in
-    rw (c.number_at.ensures, c.number_at-2.ensures, c.data_at.ensures, start)
-    (rw (behind a.frames.now (16 * a.i) 3, behind a.frames.now (16 * a.i) 2, behind a.frames.now (16 * a.i) 1))
+    let s = c.args.frames.now in
+    let at : c.args.i * 16 % 2 ^ 64 ≡ 16 * c.args.i = omega arith in
+    let n : 16 * c.args.i + 16 - 16 * c.args.i ≡ 16 = omega arith in
+    let e = rw (at, n) at c.copy_from_slice.ensures.after in
+    c.frame_in.ensures.value ∙ ap (λ (bytes : List ℕ). frame_in_bytes bytes 0) e ∙ copied s (16 * c.args.i)

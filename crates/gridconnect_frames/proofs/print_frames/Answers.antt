@@ -16,7 +16,7 @@ returns-then-not-has_room c =
 pub returns : goal.returns
 returns c =
     let a = c.args in
-    let n = c.at_most_ten in
+    let n = c.min in
     let p = c.print_some.ensures in
     let s = some-short a.frames.now 0 n.result in
     let h = room_there a.at (length a.out.now) c.has_room.ensures c.if-not-has_room.false in

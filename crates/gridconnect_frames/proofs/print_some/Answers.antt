@@ -13,8 +13,8 @@ pub loop-i-preserved : goal.loop-i-preserved
 loop-i-preserved c =
     let l = c.loop-i in
     let a = c.args in
-    let m = print_next a.frames.now l.out l.i a.n l.end (omega arith) (omega arith) c.frame_at.ensures c.print_frame-end.ensures l.invariant.3 l.invariant.4 in
-    (omega arith, m.0 ∙ l.invariant.1, omega arith, m.2, m.3)
+    let m = print_next a.frames.now l.out l.i a.n l.end (omega arith) (omega arith) c.frame_at.ensures c.print_frame-end.ensures l.invariant.2 l.invariant.3 in
+    (m.0 ∙ l.invariant.0, omega arith, m.2, m.3)
 
 pub returns : goal.returns
 returns c =
@@ -22,4 +22,4 @@ returns c =
     let l = c.loop-i in
     let e = print_none a.frames.now l.out l.i a.n (omega arith) in
     let z : length (frames_text (frames_from a.frames.now (16 * l.i) (a.n - l.i))) ≡ 0 = ap length e in
-    record { end = omega arith; out = sym (l.invariant.3 ∙ rw e (put_nil l.end l.out)) }
+    record { end = omega arith; out = sym (l.invariant.2 ∙ rw e (put_nil l.end l.out)) }

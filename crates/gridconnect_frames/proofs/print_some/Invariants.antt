@@ -7,9 +7,6 @@ use Rattle.gridconnect_frames.proofs.print_some.Given as goal
 
 abbrev pub invariant-loop-i : goal.invariant-loop-i
 invariant-loop-i l =
-    (l.i ≤ l.n) × (length l.out ≡ length l.initial.out) × (l.end + 29 * (l.n - l.i) ≤ length l.initial.out)
+    (length l.out ≡ length l.initial.out) × (l.end + 29 * (l.n - l.i) ≤ length l.initial.out)
     × (put_at l.at (frames_text (frames_from l.frames 0 l.n)) l.initial.out ≡ put_at l.end (frames_text (frames_from l.frames (16 * l.i) (l.n - l.i))) l.out)
     × (l.at + length (frames_text (frames_from l.frames 0 l.n)) ≡ l.end + length (frames_text (frames_from l.frames (16 * l.i) (l.n - l.i))))
-
-abbrev pub decreases-loop-i : goal.decreases-loop-i
-decreases-loop-i l = l.n - l.i
