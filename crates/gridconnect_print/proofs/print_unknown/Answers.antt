@@ -13,4 +13,4 @@ returns-then-not-has_room c =
 pub returns : goal.returns
 returns c =
     let a = c.args in
-    printed a.at unknown_text a.out.now 2 refl (sym c.has_room.ensures ∙ c.if-not-has_room.false) c.put.ensures
+    printed a.at unknown_text a.out.now 2 refl (sym c.has_room.ensures ∙ c.if-not-has_room.false) c.put_pair.ensures

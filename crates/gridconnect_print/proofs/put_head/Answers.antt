@@ -25,4 +25,4 @@ composed header at buffer {o₁} {o₂} fits e₁ e₂ e₃ =
     e₃ ∙ placed-behind at (at + 10) xs (78 ∷ []) buffer q₂ (omega arith) (omega arith) ∙ sym (placed-fits at (xs ++ 78 ∷ []) buffer (omega arith))
 
 pub returns : goal.returns
-returns c = composed _ _ _ (omega arith) c.put.ensures c.put_number.ensures.out_value c.put-2.ensures
+returns c = composed _ _ _ (omega arith) c.put_pair.ensures c.put_number.ensures.out_value c.put_byte.ensures

@@ -40,5 +40,5 @@ returns c =
     let f = c.args.frame in
     let full : length f.bytes ≡ 8 = search rules in
     let size : length (take f.len f.bytes) ≡ f.len = length-take-le f.len f.bytes (omega arith) in
-    composed _ _ _ _ _ size c.requires.1 c.put_head.ensures c.put_digits.ensures c.put.ensures
+    composed _ _ _ _ _ size c.requires.1 c.put_head.ensures c.put_digits.ensures c.put_pair.ensures
     ∙ rw (line-text f c.requires.0)
