@@ -1,15 +1,16 @@
 -- What a caller in C finds after a call: the numbers, and what it lent.
 use Rattle.std.specs.Prelude.{ℕ, List, ◌≡◌, length}
 use Rattle.buffer.specs.Buffer.{over}
-use Rattle.buffer.specs.Lent.{LentBytes, GivenBytes, before, after}
+use Rattle.buffer.specs.Lent.{LentBytes, GivenBytes, before, after, given}
 use Rattle.call_error.specs.declared.CallError.{CallError}
 use Rattle.can_frame.specs.declared.Frame.{Frame}
 use Rattle.can_frame_bytes.specs.Layout.{frames_bytes}
 use Rattle.rx_spec.specs.Order.{FrameResult}
 use Rattle.rx_place_spec.specs.PlaceBytes.{state_in}
+use Rattle.space_table.specs.Table.{spaces_in}
 use Rattle.reply_answer.specs.Answers.{Result}
 use Rattle.exec_store.specs.Storing.{OnlyWithin}
-use Rattle.exec_spec.specs.Handling.{Contents}
+use Rattle.exec_spec.specs.Handling.{Fixed, fixed, Contents}
 use Rattle.exec_spec.specs.LentBoard.{contents_after}
 use Rattle.node_spec.specs.DatagramCall.{Final, lent_datagram_call}
 use Rattle.node_spec.specs.FrameCall.{frame_answer_of, frame_buffer_of, Keeps, lent_frame_call}
@@ -19,13 +20,17 @@ use Rattle.capi_result.specs.Result.{handled_numbers, frame_numbers}
 use Rattle.capi_numbers.specs.Numbers.{result_bytes}
 use Rattle.capi_numbers.specs.declared.CallResult.{CallResult}
 
+-- The board, of which a caller in C lends each part by itself.
+abbrev lent_board : ℕ → ℕ → GivenBytes → GivenBytes → Fixed
+lent_board alias lengths spaces flash = fixed alias lengths (spaces_in (given spaces)) (given flash)
+
 -- After the call for a whole datagram: the numbers in the result, the reply buffer, and memory with the registers are
 -- what the definition of the call says. Memory has changed nowhere but in the range that the numbers name, which is
 -- empty for every kind but a write.
 module _ (alias lengths : ℕ) (spaces flash : GivenBytes) (memory registers : LentBytes) (datagram : GivenBytes)
     (reply result : LentBytes) where
   abbrev datagram_leaves : Final
-  datagram_leaves = lent_datagram_call alias lengths spaces flash memory registers datagram reply
+  datagram_leaves = lent_datagram_call (lent_board alias lengths spaces flash) memory registers datagram reply
 
   abbrev datagram_numbers : CallResult
   datagram_numbers = handled_numbers datagram_leaves.handled
@@ -41,10 +46,10 @@ module _ (alias lengths : ℕ) (spaces flash : GivenBytes) (memory registers : L
 module _ (alias lengths : ℕ) (spaces flash : GivenBytes) (memory registers pool places : LentBytes)
     (tick header : ℕ) (payload : GivenBytes) (reply frames result : LentBytes) where
   abbrev frame_leaves : FrameResult CallError Contents Result
-  frame_leaves = lent_frame_call alias lengths spaces flash memory registers pool places tick header payload reply
+  frame_leaves = lent_frame_call (lent_board alias lengths spaces flash) memory registers pool places tick header payload reply
 
   abbrev frames_sent : List Frame
-  frames_sent = lent_frames_sent alias lengths spaces flash memory registers pool places tick header payload reply frames
+  frames_sent = lent_frames_sent (lent_board alias lengths spaces flash) memory registers pool places tick header payload reply frames
 
   abbrev frame_call_numbers : CallResult
   frame_call_numbers = frame_numbers (frame_answer_of frame_leaves.answer) (length frames_sent)

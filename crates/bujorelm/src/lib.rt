@@ -17,6 +17,7 @@ ghost use Rattle.bujorelm.specs.Returns.{DatagramReturns, FrameReturns, TickRetu
 use capi_lines::{CarryBytes, LineBytes, ParsedBytes};
 use capi_numbers::ResultBytes;
 use exec_registers::Registers;
+use exec_spec::Board;
 
 // The version of this edge, major in the upper 16 bits and minor in the lower: a header of the same major and of no
 // greater minor fits.
@@ -51,23 +52,16 @@ pub extern "C" fn bujorelm_handle_frame(
     ensures { FrameReturns alias write_lengths spaces flash memory registers pool places tick header payload reply frames
         res }
 {
-    let sent = node_bus::answer_frame(
+    let board = Board {
         alias,
         write_lengths,
         spaces,
         flash,
-        memory,
-        registers,
-        pool,
-        places,
-        tick,
-        header,
-        payload,
-        reply,
-        frames,
+    };
+    let sent = node_bus::answer_frame(
+        &board, memory, registers, pool, places, tick, header, payload, reply, frames,
     );
-    let answer = sent.answer;
-    capi_result::of_frame(answer, sent.count, res)
+    capi_result::of_frame(sent.answer, sent.count, res)
 }
 
 // Hears a tick that comes with no frame: the only error of the caller that it tests is B7.
@@ -93,16 +87,13 @@ pub extern "C" fn bujorelm_handle_datagram(
 )
     ensures { DatagramReturns alias write_lengths spaces flash memory registers datagram reply res }
 {
-    let handled = node_call::handle_datagram(
+    let board = Board {
         alias,
         write_lengths,
         spaces,
         flash,
-        memory,
-        registers,
-        datagram,
-        reply,
-    );
+    };
+    let handled = node_call::handle_datagram(&board, memory, registers, datagram, reply);
     capi_result::of_handled(handled, res)
 }
 

@@ -8,6 +8,7 @@ mod standard;
 ghost use Rattle.std.specs.Prelude.{◌≤◌, length};
 
 use exec_registers::Registers;
+use exec_spec::Board;
 use gridconnect_input::Carry;
 use std::io;
 
@@ -16,8 +17,7 @@ use std::io;
 // on with.
 fn answer_block(
     rt: &HostRuntime,
-    spaces: &[u8],
-    flash: &[u8],
+    board: &Board<'_>,
     memory: &mut [u8],
     registers: &mut Registers,
     pool: &mut [u8; 576],
@@ -32,18 +32,7 @@ fn answer_block(
     let mut at: usize = 0;
     while at < block.len() {
         let done = gridconnect_session::answer_chunk(
-            demo_board::alias(),
-            demo_board::write_lengths(),
-            spaces,
-            flash,
-            memory,
-            registers,
-            pool,
-            places,
-            block,
-            at,
-            carry,
-            out,
+            board, memory, registers, pool, places, block, at, carry, out,
         );
         carry = done.carry;
         at = done.at;
@@ -55,8 +44,7 @@ fn answer_block(
 // One read of the input, answered. At its end a last line that lacks its newline is answered, and nothing goes on.
 fn answer_read(
     rt: &HostRuntime,
-    spaces: &[u8],
-    flash: &[u8],
+    board: &Board<'_>,
     memory: &mut [u8],
     registers: &mut Registers,
     pool: &mut [u8; 576],
@@ -71,30 +59,23 @@ fn answer_read(
     if n > 0 {
         let block = buffer::part(input, 0, n);
         let carry = answer_block(
-            rt, spaces, flash, memory, registers, pool, places, block, begun, out,
+            rt, board, memory, registers, pool, places, block, begun, out,
         )?;
         return Ok(Some(carry));
     }
-    let end = gridconnect_session::answer_end(
-        demo_board::alias(),
-        demo_board::write_lengths(),
-        spaces,
-        flash,
-        memory,
-        registers,
-        pool,
-        places,
-        begun,
-        out,
-    );
+    let end = gridconnect_session::answer_end(board, memory, registers, pool, places, begun, out);
     standard::write(rt, buffer::part(out, 0, end))?;
     Ok(None)
 }
 
 // A proved loop has to end, and nothing says that the input does: the reads are counted.
 fn main(rt: HostRuntime) -> io::Result<()> {
-    let spaces = demo_board::table_bytes();
-    let flash = demo_board::flash_bytes();
+    let board = Board {
+        alias: demo_board::alias(),
+        write_lengths: demo_board::write_lengths(),
+        spaces: &demo_board::table_bytes(),
+        flash: &demo_board::flash_bytes(),
+    };
     let mut memory = demo_board::memory_bytes();
     let mut registers = exec_registers::new_registers();
     let mut pool = [0u8; 576];
@@ -105,8 +86,7 @@ fn main(rt: HostRuntime) -> io::Result<()> {
     for _ in 0..u64::MAX {
         let Some(left) = answer_read(
             &rt,
-            &spaces,
-            &flash,
+            &board,
             &mut memory,
             &mut registers,
             &mut pool,

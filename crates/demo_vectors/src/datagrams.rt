@@ -4,6 +4,7 @@ use crate::bytes::Hex;
 use crate::lines::digit_value;
 use call_error::CallError;
 use exec_registers::Registers;
+use exec_spec::Board;
 use reply_answer::Answer;
 use std::{fmt, io};
 
@@ -114,11 +115,14 @@ fn handle(
 ) -> Result<Answer, CallError> {
     let table = demo_board::table_bytes();
     let described = table.len().min(16 * count as usize);
+    let board = Board {
+        alias: demo_board::alias(),
+        write_lengths: demo_board::write_lengths(),
+        spaces: &table[..described],
+        flash: &demo_board::flash_bytes(),
+    };
     node_call::handle_datagram(
-        demo_board::alias(),
-        demo_board::write_lengths(),
-        &table[..described],
-        &demo_board::flash_bytes(),
+        &board,
         memory,
         registers,
         datagram,

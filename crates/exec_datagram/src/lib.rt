@@ -6,6 +6,7 @@ ghost use Rattle.exec_spec.specs.Handling.{handle, Performs, HandleBounds};
 ghost use Rattle.exec_spec.specs.LentBoard.{board_of, contents_before, contents_after};
 
 use exec_registers::Registers;
+use exec_spec::Board;
 use reply_answer::Answer;
 
 mod access;
@@ -14,16 +15,13 @@ mod perform;
 // Handles a datagram; whoever calls it has tested for the errors B2 to B14. A reply that has no room in the buffer is
 // not written.
 pub fn handle(
-    alias: u16,
-    write_lengths: u8,
-    spaces: &[u8],
-    flash: &[u8],
+    board: &Board<'_>,
     memory: &mut [u8],
     registers: &mut Registers,
     datagram: &[u8],
     out: &mut [u8],
 ) -> Answer
-    ensures performs { Performs (handle (board_of alias write_lengths spaces flash) (contents_before memory registers)
+    ensures performs { Performs (handle (board_of board) (contents_before memory registers)
         datagram.now) result out.old out.new (contents_after memory registers) }
     ensures bounds { HandleBounds }
     ensures announced { AllAnnounced }
@@ -32,16 +30,7 @@ pub fn handle(
     match cmd_decode::decode(datagram) {
         Err(rejection) => Answer::Rejected(rejection),
         Ok((form, command)) => perform::perform(
-            alias,
-            write_lengths,
-            spaces,
-            flash,
-            memory,
-            registers,
-            form,
-            command,
-            datagram,
-            out,
+            board, memory, registers, form, command, datagram, out,
         ),
     }
 }

@@ -10,6 +10,7 @@ ghost use Rattle.exec_spec.specs.LentBoard.{board_of, contents_before, contents_
 use cmd_decode::Command;
 use cmd_fields::Form;
 use exec_registers::Registers;
+use exec_spec::Board;
 use reply_answer::Answer;
 
 // 0x88: the test-and-set with the ID that a datagram has, and the lock memory afterwards as the reply.
@@ -28,10 +29,7 @@ fn reserve(registers: &mut Registers, datagram: &[u8], out: &mut [u8]) -> Answer
 
 // What a request asks for. The bytes to write, the pairs and the lock's ID are the datagram's remaining bytes.
 pub fn perform(
-    alias: u16,
-    write_lengths: u8,
-    spaces: &[u8],
-    flash: &[u8],
+    board: &Board<'_>,
     memory: &mut [u8],
     registers: &mut Registers,
     form: Form,
@@ -39,7 +37,7 @@ pub fn perform(
     datagram: &[u8],
     out: &mut [u8],
 ) -> Answer
-    ensures { Performed (board_of alias write_lengths spaces flash) (contents_before memory registers) form
+    ensures { Performed (board_of board) (contents_before memory registers) form
         (request_of command (rest_of datagram.now)) result out.old out.new (contents_after memory registers) }
 {
     match command {
@@ -48,36 +46,32 @@ pub fn perform(
             address,
             count,
         } => {
-            return crate::access::read(
-                spaces,
-                flash,
-                &memory[..],
+            let memory = &memory[..];
+            crate::access::read(
+                board.spaces,
+                board.flash,
+                memory,
                 form,
                 space,
                 address,
                 count,
                 out,
-            );
+            )
         }
         Command::Write { space, address } => {
             let bytes = cmd_view::rest(datagram);
-            return crate::access::write(spaces, memory, form, space, address, bytes, out);
+            crate::access::write(board.spaces, memory, form, space, address, bytes, out)
         }
         Command::WriteMasked { space, address } => {
             let pairs = cmd_view::rest(datagram);
-            return crate::access::write_masked(spaces, memory, form, space, address, pairs, out);
+            crate::access::write_masked(board.spaces, memory, form, space, address, pairs, out)
         }
-        Command::Options => {
-            return reply_datagram::options(out, write_lengths, spaces);
-        }
+        Command::Options => reply_datagram::options(out, board.write_lengths, board.spaces),
         Command::Information { space } => {
-            return reply_datagram::information(out, space, space_lookup::find_space(spaces, space));
+            let found = space_lookup::find_space(board.spaces, space);
+            reply_datagram::information(out, space, found)
         }
-        Command::Lock => {
-            return reserve(registers, datagram, out);
-        }
-        Command::UpdateComplete => {
-            return Answer::UpdateComplete;
-        }
+        Command::Lock => reserve(registers, datagram, out),
+        Command::UpdateComplete => Answer::UpdateComplete,
     }
 }

@@ -10,6 +10,7 @@ ghost use Rattle.gridconnect_session.specs.Chunks.{at_end, ChunkAnswered};
 ghost use Rattle.exec_spec.specs.LentBoard.{board_of, contents_before, contents_after};
 
 use exec_registers::Registers;
+use exec_spec::Board;
 use gridconnect_input::Carry;
 use gridconnect_parse::Parsed;
 
@@ -26,10 +27,7 @@ pub struct Progress {
 
 // What a step of the line splitter gives: the line that it completes, if any, is answered.
 fn answer_next(
-    alias: u16,
-    write_lengths: u8,
-    spaces: &[u8],
-    flash: &[u8],
+    board: &Board<'_>,
     memory: &mut [u8],
     registers: &mut Registers,
     pool: &mut [u8; 576],
@@ -39,35 +37,20 @@ fn answer_next(
     at: usize,
 ) -> usize
     requires { at + 290 ≤ length out.old }
-    ensures { Prints (answer_lines (board_of alias write_lengths spaces flash) (state_before places pool)
+    ensures { Prints (answer_lines (board_of board) (state_before places pool)
         (contents_before memory registers) (listed line)) at out.old result out.new
         (contents_after memory registers) (state_after places pool) }
 {
     let Some(parsed) = line else {
         return at;
     };
-    line::answer_line(
-        alias,
-        write_lengths,
-        spaces,
-        flash,
-        memory,
-        registers,
-        pool,
-        places,
-        parsed,
-        out,
-        at,
-    )
+    line::answer_line(board, memory, registers, pool, places, parsed, out, at)
 }
 
 // Answers the lines of a chunk from index `from` on, behind what an earlier chunk left, as far as `out` has room: their
 // text stands in front of `out`. Where the chunk is not read to its end, the caller writes the text and calls again.
 pub fn answer_chunk(
-    alias: u16,
-    write_lengths: u8,
-    spaces: &[u8],
-    flash: &[u8],
+    board: &Board<'_>,
     memory: &mut [u8],
     registers: &mut Registers,
     pool: &mut [u8; 576],
@@ -77,10 +60,10 @@ pub fn answer_chunk(
     begun: Carry,
     out: &mut [u8],
 ) -> Progress
-    ensures answers { ChunkAnswered (board_of alias write_lengths spaces flash) (state_before places pool)
+    ensures answers { ChunkAnswered (board_of board) (state_before places pool)
         (contents_before memory registers) begun chunk.now from result out.old out.new
         (contents_after memory registers) (state_after places pool) }
-    ensures cuts { AnyChunks (board_of alias write_lengths spaces flash) }
+    ensures cuts { AnyChunks (board_of board) }
 {
     let mut carry = begun;
     let mut at = from;
@@ -90,19 +73,7 @@ pub fn answer_chunk(
             return Progress { at, carry, end };
         }
         let next = gridconnect_lines::next_line(chunk, at, carry);
-        end = answer_next(
-            alias,
-            write_lengths,
-            spaces,
-            flash,
-            memory,
-            registers,
-            pool,
-            places,
-            next.line,
-            out,
-            end,
-        );
+        end = answer_next(board, memory, registers, pool, places, next.line, out, end);
         carry = next.carry;
         at = next.at;
     }
@@ -112,10 +83,7 @@ pub fn answer_chunk(
 // The end of the input: a last line that lacks its newline is answered, where `out` has room for the longest answer.
 // Returns the length of the text, which stands in front of `out`.
 pub fn answer_end(
-    alias: u16,
-    write_lengths: u8,
-    spaces: &[u8],
-    flash: &[u8],
+    board: &Board<'_>,
     memory: &mut [u8],
     registers: &mut Registers,
     pool: &mut [u8; 576],
@@ -123,7 +91,7 @@ pub fn answer_end(
     carry: Carry,
     out: &mut [u8],
 ) -> usize
-    ensures { Prints (answer_lines (board_of alias write_lengths spaces flash) (state_before places pool)
+    ensures { Prints (answer_lines (board_of board) (state_before places pool)
         (contents_before memory registers) (at_end carry out.old)) 0 out.old result out.new
         (contents_after memory registers) (state_after places pool) }
 {
@@ -131,17 +99,5 @@ pub fn answer_end(
         return 0;
     }
     let last = gridconnect_lines::last_line(carry);
-    answer_next(
-        alias,
-        write_lengths,
-        spaces,
-        flash,
-        memory,
-        registers,
-        pool,
-        places,
-        last.line,
-        out,
-        0,
-    )
+    answer_next(board, memory, registers, pool, places, last.line, out, 0)
 }

@@ -4,6 +4,7 @@ ghost use Rattle.gridconnect_session_spec.specs.Turn.{answer_with_room, Prints};
 ghost use Rattle.exec_spec.specs.LentBoard.{board_of, contents_before, contents_after};
 
 use exec_registers::Registers;
+use exec_spec::Board;
 use gridconnect_parse::Parsed;
 
 // A session has no clock: each of its frames comes at this tick.
@@ -12,10 +13,7 @@ const TICK: u16 = 0;
 // A line that was read: its frame is handled and what the board sends is printed into `out` from index `at` on, or `?`.
 // Returns the index past the text. Where `out` has no room for the longest answer, the line is not answered.
 pub fn answer_line(
-    alias: u16,
-    write_lengths: u8,
-    spaces: &[u8],
-    flash: &[u8],
+    board: &Board<'_>,
     memory: &mut [u8],
     registers: &mut Registers,
     pool: &mut [u8; 576],
@@ -24,7 +22,7 @@ pub fn answer_line(
     out: &mut [u8],
     at: usize,
 ) -> usize
-    ensures { Prints (answer_with_room (board_of alias write_lengths spaces flash) (state_before places pool)
+    ensures { Prints (answer_with_room (board_of board) (state_before places pool)
         (contents_before memory registers) parsed at out.old) at out.old result out.new
         (contents_after memory registers) (state_after places pool) }
 {
@@ -38,10 +36,7 @@ pub fn answer_line(
     let mut reply = [0u8; 72];
     let mut frames = [0u8; 160];
     let sent = node_bus::answer_frame(
-        alias,
-        write_lengths,
-        spaces,
-        flash,
+        board,
         memory,
         registers,
         pool,

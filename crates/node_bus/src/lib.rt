@@ -6,6 +6,7 @@ ghost use Rattle.node_send.specs.Sending.{BusEnds, BusOrder};
 
 use call_error::CallError;
 use exec_registers::Registers;
+use exec_spec::Board;
 use node_spec::FrameAnswer;
 
 // What comes of a frame, and the number of frames to send.
@@ -17,10 +18,7 @@ pub struct Sent {
 
 // Handles a frame from the bus, and makes the frames that the board sends for it.
 pub fn answer_frame(
-    alias: u16,
-    write_lengths: u8,
-    spaces: &[u8],
-    flash: &[u8],
+    board: &Board<'_>,
     memory: &mut [u8],
     registers: &mut Registers,
     pool: &mut [u8; 576],
@@ -31,15 +29,12 @@ pub fn answer_frame(
     reply: &mut [u8],
     frames: &mut [u8; 160],
 ) -> Sent
-    ensures ends { BusEnds alias write_lengths spaces flash memory registers pool places tick header payload reply frames
+    ensures ends { BusEnds (board_of board) memory registers pool places tick header payload reply frames
         result.answer result.count }
-    ensures order { BusOrder (board_of alias write_lengths spaces flash) }
+    ensures order { BusOrder (board_of board) }
 {
     let answer = node_call::handle_frame(
-        alias,
-        write_lengths,
-        spaces,
-        flash,
+        board,
         memory,
         registers,
         pool,
@@ -50,6 +45,6 @@ pub fn answer_frame(
         reply,
     );
     let tool = can_frame::source_of(header);
-    let count = node_send::frames_to_send(answer, &reply[..], alias, tool, frames);
+    let count = node_send::frames_to_send(answer, &reply[..], board.alias, tool, frames);
     Sent { answer, count }
 }

@@ -6,29 +6,24 @@ ghost use Rattle.exec_spec.specs.LentBoard.{board_of};
 ghost use Rattle.node_spec.specs.FrameCall.{AnswersCall};
 
 use exec_registers::Registers;
+use exec_spec::Board;
 use node_spec::FrameAnswer;
 use rx_join_spec::Outcome;
 
 // A finished datagram, handled whole.
 fn answer_datagram(
-    alias: u16,
-    write_lengths: u8,
-    spaces: &[u8],
-    flash: &[u8],
+    board: &Board<'_>,
     memory: &mut [u8],
     registers: &mut Registers,
     datagram: &[u8],
     reply: &mut [u8],
 ) -> FrameAnswer
     requires { 72 ≤ length reply.old }
-    ensures { AnswersCall (board_of alias write_lengths spaces flash) (brings (finish datagram.now)) (Ok result)
+    ensures { AnswersCall (board_of board) (brings (finish datagram.now)) (Ok result)
         memory registers reply }
 {
     FrameAnswer::Answered(exec_datagram::handle(
-        alias,
-        write_lengths,
-        spaces,
-        flash,
+        board,
         memory,
         registers,
         datagram,
@@ -38,10 +33,7 @@ fn answer_datagram(
 
 // The answer to what joining gave, whatever it left of the reception state.
 pub fn answer_outcome(
-    alias: u16,
-    write_lengths: u8,
-    spaces: &[u8],
-    flash: &[u8],
+    board: &Board<'_>,
     memory: &mut [u8],
     registers: &mut Registers,
     pool: &[u8],
@@ -50,7 +42,7 @@ pub fn answer_outcome(
     reply: &mut [u8],
 ) -> FrameAnswer
     requires { (72 ≤ length reply.old) × (length pool.now ≡ 576) × InsidePool outcome }
-    ensures { AnswersCall (board_of alias write_lengths spaces flash) (event_of (Ok outcome) payload.now pool.now)
+    ensures { AnswersCall (board_of board) (event_of (Ok outcome) payload.now pool.now)
         (Ok result) memory registers reply }
 {
     match outcome {
@@ -58,20 +50,14 @@ pub fn answer_outcome(
         Outcome::NoAnswer => FrameAnswer::Nothing,
         Outcome::TransportRefusal(code) => FrameAnswer::TransportRefusal(code),
         Outcome::InFrame => answer_datagram(
-            alias,
-            write_lengths,
-            spaces,
-            flash,
+            board,
             memory,
             registers,
             payload,
             reply,
         ),
         Outcome::InPool(from, end) => answer_datagram(
-            alias,
-            write_lengths,
-            spaces,
-            flash,
+            board,
             memory,
             registers,
             &pool[from..end],

@@ -13,6 +13,7 @@ ghost use Rattle.node_spec.specs.TickCall.{tick_answer, TickLeaves};
 
 use call_error::{CallError, Checked};
 use exec_registers::Registers;
+use exec_spec::Board;
 use node_spec::FrameAnswer;
 use reply_answer::Answer;
 
@@ -28,12 +29,11 @@ fn check_later() -> Checked
 
 // Handles a frame that came from the bus at a tick. The caller's errors come first: those before B7 here, and B7 with
 // those after it where the frame is joined, so that one search through the places does for all. The bytes of unfinished
-// datagrams are in the pool, 72 for each place.
+// datagrams are in the pool, 72 for each place. Memory with the registers, and the pool with the places, stay
+// parameters: a struct that holds two `&mut` would need, in each function that it is lent to, a clause that its fields
+// are still the same loans, which is longer than the two parameters.
 pub fn handle_frame(
-    alias: u16,
-    write_lengths: u8,
-    spaces: &[u8],
-    flash: &[u8],
+    board: &Board<'_>,
     memory: &mut [u8],
     registers: &mut Registers,
     pool: &mut [u8; 576],
@@ -43,17 +43,20 @@ pub fn handle_frame(
     payload: &[u8],
     reply: &mut [u8],
 ) -> Result<FrameAnswer, CallError>
-    ensures ends { FrameEnds alias write_lengths spaces flash memory registers pool places tick header payload reply result }
-    ensures theorems { NodeTheorems (board_of alias write_lengths spaces flash) }
+    ensures ends { FrameEnds (board_of board) memory registers pool places tick header payload reply result }
+    ensures theorems { NodeTheorems (board_of board) }
 {
-    call_check::check_call(alias, spaces, flash.len(), memory.len(), reply.len())?;
+    call_check::check_call(
+        board.alias,
+        board.spaces,
+        board.flash.len(),
+        memory.len(),
+        reply.len(),
+    )?;
     let later = check_later();
-    let outcome = rx_join::join(pool, places, alias, tick, header, payload, later)?;
+    let outcome = rx_join::join(pool, places, board.alias, tick, header, payload, later)?;
     Ok(frames::answer_outcome(
-        alias,
-        write_lengths,
-        spaces,
-        flash,
+        board,
         memory,
         registers,
         &pool[..],
@@ -65,23 +68,23 @@ pub fn handle_frame(
 
 // Handles a datagram that is handed over whole.
 pub fn handle_datagram(
-    alias: u16,
-    write_lengths: u8,
-    spaces: &[u8],
-    flash: &[u8],
+    board: &Board<'_>,
     memory: &mut [u8],
     registers: &mut Registers,
     datagram: &[u8],
     reply: &mut [u8],
 ) -> Result<Answer, CallError>
-    ensures { DatagramEnds alias write_lengths spaces flash memory registers datagram reply result }
+    ensures { DatagramEnds (board_of board) memory registers datagram reply result }
 {
-    call_check::check_call(alias, spaces, flash.len(), memory.len(), reply.len())?;
+    call_check::check_call(
+        board.alias,
+        board.spaces,
+        board.flash.len(),
+        memory.len(),
+        reply.len(),
+    )?;
     Ok(exec_datagram::handle(
-        alias,
-        write_lengths,
-        spaces,
-        flash,
+        board,
         memory,
         registers,
         datagram,

@@ -104,14 +104,14 @@ BusOrder x =
 -- ---- what the code gives back
 
 -- Everything that the caller finds after a frame is handled and answered, of what it lent and handed in.
-module _ (alias lengths : ℕ) (spaces flash : GivenBytes) (memory registers pool places : LentBytes)
+module _ (x : Fixed) (memory registers pool places : LentBytes)
     (tick header : ℕ) (payload : GivenBytes) (reply frames : LentBytes) where
   -- The frames to send to the frame's source.
   abbrev pub lent_frames_sent : List Frame
   lent_frames_sent =
-      sent_for alias (source_of header)
-      (lent_frame_call alias lengths spaces flash memory registers pool places tick header payload reply).answer
+      sent_for x.alias (source_of header)
+      (lent_frame_call x memory registers pool places tick header payload reply).answer
 
   pub record BusEnds (answer : OrError FrameAnswer) (count : ℕ) : Type 0 where
-    pub ends : FrameEnds alias lengths spaces flash memory registers pool places tick header payload reply answer
+    pub ends : FrameEnds x memory registers pool places tick header payload reply answer
     pub sent : Made lent_frames_sent count (before frames) (after frames)

@@ -8,7 +8,7 @@ use Rattle.reply_answer.specs.declared.Answer.{Answer}
 use Rattle.reply_answer.specs.Answers.{answer_of, buffer_of, SmallAnswer}
 use Rattle.exec_spec.specs.Access.{Changes}
 use Rattle.exec_spec.specs.Handling.{Fixed, Contents, Outcome, handle}
-use Rattle.exec_spec.specs.LentBoard.{board_of, contents_before, contents_after}
+use Rattle.exec_spec.specs.LentBoard.{contents_before, contents_after}
 use Rattle.node_spec.specs.CallerErrors.{datagram_check}
 
 -- What the caller finds after a call: the answer or the error, the reply buffer, and memory with the registers.
@@ -48,11 +48,11 @@ HandledChanges (Err error) old new = new ≡ old
 HandledChanges (Ok a) old new = Changes a old new
 
 -- Everything that the caller finds after the call for a whole datagram, of what it lent and handed in.
-module _ (alias lengths : ℕ) (spaces flash : GivenBytes) (memory registers : LentBytes) (datagram : GivenBytes)
+module _ (x : Fixed) (memory registers : LentBytes) (datagram : GivenBytes)
     (reply : LentBytes) where
   abbrev pub lent_datagram_call : Final
   lent_datagram_call =
-      datagram_call (board_of alias lengths spaces flash) (contents_before memory registers) (given datagram)
+      datagram_call x (contents_before memory registers) (given datagram)
       (before reply)
 
   pub record DatagramEnds (r : OrError Answer) : Type 0 where

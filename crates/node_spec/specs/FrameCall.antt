@@ -12,7 +12,7 @@ use Rattle.rx_join_spec.specs.Joins.{CallEvent, refused_by, brings}
 use Rattle.reply_answer.specs.Answers.{Result, answer_of, buffer_of, SmallAnswer}
 use Rattle.exec_spec.specs.Access.{Changes}
 use Rattle.exec_spec.specs.Handling.{Fixed, Contents, handle, Short}
-use Rattle.exec_spec.specs.LentBoard.{board_of, contents_before, contents_after}
+use Rattle.exec_spec.specs.LentBoard.{contents_before, contents_after}
 use Rattle.node_spec.specs.CallerErrors.{frame_check}
 use Rattle.node_spec.specs.declared.FrameAnswer.{FrameAnswer}
 use Rattle.node_spec.specs.declared.FrameAnswer.TheVariants as answer
@@ -103,11 +103,11 @@ pub record Keeps (x : FrameResult CallError Contents Result) (before after bytes
   pub pool : bytes ≡ x.state.pool
 
 -- Everything that the caller finds after the frame call, of what it lent and handed in.
-module _ (alias lengths : ℕ) (spaces flash : GivenBytes) (memory registers pool places : LentBytes)
+module _ (x : Fixed) (memory registers pool places : LentBytes)
     (tick header : ℕ) (payload : GivenBytes) (reply : LentBytes) where
   abbrev pub lent_frame_call : FrameResult CallError Contents Result
   lent_frame_call =
-      frame_call (board_of alias lengths spaces flash) (before reply) tick (state_before places pool)
+      frame_call x (before reply) tick (state_before places pool)
       (contents_before memory registers) (can_frame header (given payload))
 
   pub record FrameEnds (r : OrError FrameAnswer) : Type 0 where

@@ -1,10 +1,9 @@
 -- `handle` meets its contract.
 -- Assumes nothing.
 use mathlib.Core.Path.{refl, sym, ap, ◌∙◌}
-use Rattle.space_table.specs.Table.{spaces_in}
 use Rattle.cmd_decode.specs.Decoding.{reading_of}
-use Rattle.exec_spec.specs.Handling.{fixed, handle}
-use Rattle.exec_spec.specs.LentBoard.{contents_in}
+use Rattle.exec_spec.specs.Handling.{handle}
+use Rattle.exec_spec.specs.LentBoard.{fixed_in, contents_in}
 use Rattle.exec_spec.proofs.HandlingLaws.{request-handled, handle-bounds, announced, leaves}
 use Rattle.exec_datagram.proofs.handle.Goals as goal
 
@@ -26,7 +25,7 @@ returns-in-Err-clause-leaves c = leaves
 pub returns-in-Ok-clause-performs : goal.returns-in-Ok-clause-performs
 returns-in-Ok-clause-performs c =
     let a = c.args in
-    let x = fixed a.alias a.write_lengths (spaces_in a.spaces.now) a.flash.now in
+    let x = fixed_in a.board.now in
     let d = a.datagram.now in
     let e = sym c.decode.ensures ∙ ap (λ r. reading_of r d) c.in-Ok.is in
     request-handled x (contents_in a.memory.now a.registers.now) d e c.perform.ensures

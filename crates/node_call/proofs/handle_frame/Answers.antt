@@ -4,11 +4,9 @@ use mathlib.Core.Path.{refl, sym, ◌∙◌}
 use borrow.Author.Rules.{rules}
 use Rattle.can_frame.specs.Frame.{can_frame}
 use Rattle.std.proofs.lemmas.Result.{err_from_is_err_and}
-use Rattle.space_table.specs.Table.{spaces_in}
 use Rattle.rx_place_spec.specs.PlaceBytes.{state_in}
 use Rattle.rx_place_spec.proofs.ByteLaws.{renewed-same}
-use Rattle.exec_spec.specs.Handling.{fixed}
-use Rattle.exec_spec.specs.LentBoard.{contents_in}
+use Rattle.exec_spec.specs.LentBoard.{fixed_in, contents_in}
 use Rattle.node_spec.proofs.DatagramLaws.{by-sizes, passed-buffer}
 use Rattle.node_spec.specs.FrameCall.{frame_call}
 use Rattle.rx_join_spec.proofs.CheckLaws.{ends-inside}
@@ -19,7 +17,7 @@ use Rattle.node_call.proofs.handle_frame.Goals as goal
 pub returns-in_err-check_call-clause-ends : goal.returns-in_err-check_call-clause-ends
 returns-in_err-check_call-clause-ends c =
     let a = c.args in
-    let x = fixed a.alias a.write_lengths (spaces_in a.spaces.now) a.flash.now in
+    let x = fixed_in a.board.now in
     let w = contents_in a.memory.now a.registers.now in
     let st = state_in a.places.now a.pool.now in
     let g = sym (by-sizes x w a.reply.now c.check_call.ensures.first) ∙ c.in_err-check_call.was in
@@ -39,7 +37,7 @@ returns-in_err-check_call-clause-theorems c = node_theorems _
 pub returns-in_err-outcome-clause-ends : goal.returns-in_err-outcome-clause-ends
 returns-in_err-outcome-clause-ends c =
     let a = c.args in
-    let x = fixed a.alias a.write_lengths (spaces_in a.spaces.now) a.flash.now in
+    let x = fixed_in a.board.now in
     let w = contents_in a.memory.now a.registers.now in
     let st = state_in a.places.now a.pool.now in
     let f = can_frame a.header a.payload.now in
@@ -61,7 +59,7 @@ returns-in_err-outcome-clause-theorems c = node_theorems _
 pub answer_outcome-requires : goal.answer_outcome-requires
 answer_outcome-requires c =
     let a = c.args in
-    let x = fixed a.alias a.write_lengths (spaces_in a.spaces.now) a.flash.now in
+    let x = fixed_in a.board.now in
     let w = contents_in a.memory.now a.registers.now in
     let g = sym (by-sizes x w a.reply.now c.check_call.ensures.first) ∙ c.in_ok-check_call.was in
     (passed-buffer x w a.reply.now g, search rules, ends-inside c.in_ok-outcome.ensures.ends)
@@ -69,7 +67,7 @@ answer_outcome-requires c =
 pub returns-clause-ends : goal.returns-clause-ends
 returns-clause-ends c =
     let a = c.args in
-    let x = fixed a.alias a.write_lengths (spaces_in a.spaces.now) a.flash.now in
+    let x = fixed_in a.board.now in
     let w = contents_in a.memory.now a.registers.now in
     let st = state_in a.places.now a.pool.now in
     let f = can_frame a.header a.payload.now in

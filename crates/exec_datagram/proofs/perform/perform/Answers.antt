@@ -32,7 +32,7 @@ pub returns-in-Information : goal.returns-in-Information
 unfolding perform
 returns-in-Information c =
     rw c.in-Information.is
-    (record { answer = rw (← c.find_space.ensures) c.information.ensures; contents = refl; six = tt })
+    (record { answer = rw (← c.find_space-found.ensures) c.information.ensures; contents = refl; six = tt })
 
 pub returns-in-Lock : goal.returns-in-Lock
 unfolding perform

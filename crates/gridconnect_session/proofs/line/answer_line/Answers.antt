@@ -1,9 +1,7 @@
 -- `answer_line` meets its contract.
 -- Assumes nothing.
-use Rattle.space_table.specs.Table.{spaces_in}
 use Rattle.rx_place_spec.specs.PlaceBytes.{state_in}
-use Rattle.exec_spec.specs.Handling.{fixed}
-use Rattle.exec_spec.specs.LentBoard.{contents_in}
+use Rattle.exec_spec.specs.LentBoard.{fixed_in, contents_in}
 use Rattle.gridconnect_frames.proofs.RoomLaws.{room_none, room_there}
 use Rattle.gridconnect_session_spec.proofs.TurnLaws.{line-none, line-unknown, line-handled}
 use Rattle.gridconnect_session.proofs.line.answer_line.Goals as goal
@@ -19,7 +17,7 @@ returns-in_default c =
 pub returns : goal.returns
 returns c =
     let a = c.args in
-    let x = fixed a.alias a.write_lengths (spaces_in a.spaces.now) a.flash.now in
+    let x = fixed_in a.board.now in
     let st = state_in a.places.now a.pool.now in
     let w = contents_in a.memory.now a.registers.now in
     let room = room_there _ _ c.has_room.ensures c.if-not-has_room.false in
