@@ -43,7 +43,7 @@ returns-in_err-outcome-clause-ends c =
     let f = can_frame a.header a.payload.now in
     let g = sym (by-sizes x w a.reply.now c.check_call.ensures.first) ∙ c.in_ok-check_call.was in
     let l = c.check_later-later.ensures x w in
-    let n = c.in_err-outcome.ensures.ends in
+    let n = rw c.in_err-outcome.was at c.join.ensures.ends in
     let p = err_from_is_err_and c.from_residual-in_err-outcome.result c.from_residual-in_err-outcome.ensures.1 in
     rw (p.1, p.2)
     (record {
@@ -62,7 +62,7 @@ answer_outcome-requires c =
     let x = fixed_in a.board.now in
     let w = contents_in a.memory.now a.registers.now in
     let g = sym (by-sizes x w a.reply.now c.check_call.ensures.first) ∙ c.in_ok-check_call.was in
-    (passed-buffer x w a.reply.now g, search rules, ends-inside c.in_ok-outcome.ensures.ends)
+    (passed-buffer x w a.reply.now g, search rules, ends-inside (rw c.in_ok-outcome.was at c.join.ensures.ends))
 
 pub returns-clause-ends : goal.returns-clause-ends
 returns-clause-ends c =
@@ -73,7 +73,7 @@ returns-clause-ends c =
     let f = can_frame a.header a.payload.now in
     let g = sym (by-sizes x w a.reply.now c.check_call.ensures.first) ∙ c.in_ok-check_call.was in
     let l = c.check_later-later.ensures x w in
-    let n = c.in_ok-outcome.ensures.ends in
+    let n = rw c.in_ok-outcome.was at c.join.ensures.ends in
     let call = frame_call x a.reply.now a.tick st w f in
     let p = c.answer_outcome.ensures call.state in
     record {
