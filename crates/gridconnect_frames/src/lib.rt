@@ -16,10 +16,7 @@ fn frame_at(frames: &[u8; 160], i: usize) -> Frame
     requires { i < 10 }
     ensures { result ≡ frame_in_bytes frames.now (16 * i) }
 {
-    let at = i << 4;
-    let mut bytes = [0u8; 16];
-    bytes.copy_from_slice(&frames[at..at + 16]);
-    can_frame_bytes::frame_in(&bytes)
+    can_frame_bytes::frame_at(frames, i << 4)
 }
 
 // The first n frames.
