@@ -1,7 +1,7 @@
 // GridConnect lines for a caller in C: what is read and what is carried lie in lent bytes.
 #![tactic(auto)]
 
-ghost use Rattle.std.specs.Prelude.{◌≡◌, [], ◌∷◌, ◌++◌, length, take, drop};
+ghost use Rattle.std.specs.Prelude.{◌≡◌, [], ◌∷◌, ◌++◌, take, drop};
 ghost use Rattle.can_frame_bytes.specs.Layout.{frame_in_bytes};
 ghost use Rattle.gridconnect_print.specs.Line.{frame_text, Printed};
 ghost use Rattle.gridconnect_parse.specs.Parsing.{parse_of};

@@ -1,23 +1,11 @@
 // Frames that lie in lent bytes, printed as lines, and the room that an answer takes as text.
 #![tactic(auto)]
 
-ghost use Rattle.std.specs.Prelude.{◌≡◌, ◌+◌, ◌*◌, ◌≤◌, ◌<◌, min, length, get_or};
+ghost use Rattle.std.specs.Prelude.{◌≡◌, ◌+◌, ◌*◌, ◌≤◌, min, length};
 ghost use Rattle.buffer.specs.Buffer.{put_at};
-ghost use Rattle.buffer.specs.BigEndian.{number_of};
-ghost use Rattle.can_frame_bytes.specs.Layout.{frame_in_bytes};
 ghost use Rattle.gridconnect_print.specs.Line.{Printed};
 ghost use Rattle.gridconnect_frames.specs.Printing.{frames_from, frames_text, when_room};
 ghost use Rattle.gridconnect_frames.specs.Room.{has_room};
-
-use can_frame::Frame;
-
-// Frame i of the lent bytes.
-fn frame_at(frames: &[u8; 160], i: usize) -> Frame
-    requires { i < 10 }
-    ensures { result ≡ frame_in_bytes frames.now (16 * i) }
-{
-    can_frame_bytes::frame_at(frames, i << 4)
-}
 
 // The first n frames.
 fn print_some(frames: &[u8; 160], n: usize, out: &mut [u8], at: usize) -> usize
@@ -27,7 +15,8 @@ fn print_some(frames: &[u8; 160], n: usize, out: &mut [u8], at: usize) -> usize
 {
     let mut end = at;
     for i in 0..n {
-        end = gridconnect_print::print_frame(frame_at(frames, i), out, end);
+        let frame = can_frame_bytes::frame_at(frames, i << 4);
+        end = gridconnect_print::print_frame(frame, out, end);
     }
     end
 }

@@ -1,7 +1,7 @@
 // An input that comes in chunks: where a line ends, and the beginning of a line that is carried from chunk to chunk.
 #![tactic(auto)]
 
-ghost use Rattle.std.specs.Prelude.{◌≡◌, ◌≤◌, min, ◌+◌, [], ◌++◌, length, drop};
+ghost use Rattle.std.specs.Prelude.{◌≡◌, ◌≤◌, ◌+◌, [], ◌++◌, length};
 ghost use Rattle.gridconnect_input.specs.Input.{carry_with, carry_of, begun_of, AnyCuts};
 ghost use Rattle.gridconnect_input.specs.Newline.{until_newline};
 

@@ -1,7 +1,7 @@
 // Text to text: the lines of an input that comes in chunks, answered by the board as far as the buffer has room.
 #![tactic(auto)]
 
-ghost use Rattle.std.specs.Prelude.{◌≡◌, [], ◌+◌, ◌≤◌, length};
+ghost use Rattle.std.specs.Prelude.{◌+◌, ◌≤◌, length};
 ghost use Rattle.rx_place_spec.specs.PlaceBytes.{state_before, state_after};
 ghost use Rattle.gridconnect_input.specs.Input.{listed};
 ghost use Rattle.gridconnect_session_spec.specs.Turn.{Prints};

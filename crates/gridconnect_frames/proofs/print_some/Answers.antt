@@ -1,6 +1,6 @@
 -- `print_some` meets its contract. The invariant: the lines of the frames that are left, printed from here on, give the whole.
 -- Assumes nothing.
-use Prim.Native.Nat.{◌-◌, ◌*◌}
+use Prim.Native.Nat.{◌-◌, ◌*◌, ◌%◌, ◌^◌}
 use mathlib.Core.Path.{◌≡◌, sym, ap, ◌∙◌}
 use native.Mathlib.Omega.{arith}
 use lib.ListN.{length}
@@ -13,7 +13,8 @@ pub loop-i-preserved : goal.loop-i-preserved
 loop-i-preserved c =
     let l = c.loop-i in
     let a = c.args in
-    let m = print_next a.frames.now l.out l.i a.n l.end (omega arith) (omega arith) c.frame_at.ensures c.print_frame-end.ensures l.invariant.2 l.invariant.3 in
+    let start : l.i * 16 % 2 ^ 64 ≡ 16 * l.i = omega arith in
+    let m = print_next a.frames.now l.out l.i a.n l.end (omega arith) (omega arith) (rw start at c.frame_at-frame.ensures) c.print_frame-end.ensures l.invariant.2 l.invariant.3 in
     (m.0 ∙ l.invariant.0, omega arith, m.2, m.3)
 
 pub returns : goal.returns
