@@ -5,6 +5,7 @@ use mathlib.Core.Path.{◌≡◌, refl, sym, ap, subst, ◌∙◌}
 use mathlib.Core.List.{List}
 use Rattle.buffer.specs.LittleEndian.{number_in}
 use Rattle.buffer.proofs.LeastLaws.{two_back, eight-back}
+use Rattle.can_frame.specs.declared.TransportRefusal.TheVariants.{TemporaryError, BufferUnavailable, OutOfOrder}
 use Rattle.call_error.specs.CallErrors.{OrError, or_else, Checked}
 use Rattle.call_error.specs.declared.CallError.TheVariants.{B7BadReceptionState}
 use Rattle.rx_place_spec.specs.State.{State}
@@ -28,7 +29,9 @@ unfolding number_in
 outcome-back (Err error) b = ap Err (sym b)
 outcome-back (Ok outcome.Ignored) b = refl
 outcome-back (Ok outcome.NoAnswer) b = refl
-outcome-back (Ok (outcome.TransportRefusal code)) b = ap (λ (n : ℕ). Ok (outcome.TransportRefusal n)) (two_back code)
+outcome-back (Ok (outcome.TransportRefusal TemporaryError)) b = refl
+outcome-back (Ok (outcome.TransportRefusal BufferUnavailable)) b = refl
+outcome-back (Ok (outcome.TransportRefusal OutOfOrder)) b = refl
 outcome-back (Ok outcome.InFrame) b = refl
 outcome-back (Ok (outcome.InPool from end)) b = rw (eight-back from, eight-back end)
 

@@ -3,6 +3,7 @@
 
 ghost use Rattle.std.specs.Prelude.{◌≡◌, ◌≤◌};
 ghost use Rattle.can_frame.specs.Frame.{source_of, kind_of_frame, role_of};
+ghost use Rattle.can_frame.specs.Refusal.{refusal_code};
 
 // A frame to be sent or one that was read: its data are the first `len` of the bytes. The crate `can_frame_bytes` says
 // how it lies in 16 bytes.
@@ -22,6 +23,23 @@ pub enum Role {
     First,
     Middle,
     Last,
+}
+
+// Why the transport refuses a frame. Each refusal has the code by which the tool hears of it.
+#[derive(Clone, Copy)]
+pub enum TransportRefusal {
+    TemporaryError = 0x2000,
+    BufferUnavailable = 0x2020,
+    OutOfOrder = 0x2040,
+}
+
+impl TransportRefusal {
+    // The code that the frame of the refusal carries.
+    pub fn code(self) -> u16
+        ensures { result ≡ refusal_code self }
+    {
+        self as u16
+    }
 }
 
 // The source alias of a header.

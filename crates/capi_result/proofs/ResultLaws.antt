@@ -1,6 +1,7 @@
 -- Laws of a call's numbers: those of a call have room in their bytes, and memory changed nowhere but in the range that they name.
 -- Assumes nothing.
 use Rattle.std.specs.Prelude.{Ok, Err}
+use Rattle.can_frame.specs.Refusal.{refusal_code}
 use Rattle.call_error.specs.CallErrors.{OrError}
 use Prim.Native.Nat.{ℕ, ◌≤◌, min}
 use mathlib.Core.Path.{◌≡◌, refl, ap, subst, ◌∙◌}
@@ -43,7 +44,7 @@ frame-room : (r : OrError FrameAnswer) (frames : ℕ) → SmallFrame r → frame
 frame-room (Err error) frames s h = has_room 0 _ _ 0 0 0 0 0 frames (omega arith) (omega arith) (omega arith) h
 frame-room (Ok frame.Ignored) frames s h = has_room 1 0 no_position 0 0 0 0 0 frames (omega arith) (omega arith) (omega arith) h
 frame-room (Ok frame.Nothing) frames s h = has_room 2 0 no_position 0 0 0 0 0 frames (omega arith) (omega arith) (omega arith) h
-frame-room (Ok (frame.TransportRefusal code)) frames s h = has_room 3 0 no_position 0 code 0 0 0 frames (omega arith) (omega arith) (omega arith) h
+frame-room (Ok (frame.TransportRefusal refusal)) frames s h = has_room 3 0 no_position 0 (refusal_code refusal) 0 0 0 frames (omega arith) (omega arith) (omega arith) h
 frame-room (Ok (frame.Answered a)) frames s h = answer-room a frames s h
 
 -- ---- what changed
@@ -67,7 +68,7 @@ module _ (old new : List ℕ) where
   frame-within (Err error) frames e = none-changed e
   frame-within (Ok frame.Ignored) frames e = none-changed e
   frame-within (Ok frame.Nothing) frames e = none-changed e
-  frame-within (Ok (frame.TransportRefusal code)) frames e = none-changed e
+  frame-within (Ok (frame.TransportRefusal refusal)) frames e = none-changed e
   frame-within (Ok (frame.Answered a)) frames e = answer-within a frames e
 
 -- ---- what the code gives is what its answer was proved to be

@@ -1,5 +1,6 @@
 -- What comes of a call as numbers, for a caller in C.
 use Rattle.std.specs.Prelude.{ℕ, Option, Some, None, Ok, Err}
+use Rattle.can_frame.specs.Refusal.{refusal_code}
 use Rattle.call_error.specs.CallErrors.{refusal_of, OrError}
 use Rattle.call_error.specs.declared.CallError.{CallError}
 use Rattle.reply_answer.specs.Answers.{code_of}
@@ -36,5 +37,5 @@ abbrev pub frame_numbers : OrError FrameAnswer → ℕ → CallResult
 frame_numbers (Err error) frames = error_numbers error frames
 frame_numbers (Ok frame.Ignored) frames = numbers kind_ignored 0 0 0 0 0 frames
 frame_numbers (Ok frame.Nothing) frames = numbers kind_joined 0 0 0 0 0 frames
-frame_numbers (Ok (frame.TransportRefusal code)) frames = numbers kind_transport_refusal 0 code 0 0 0 frames
+frame_numbers (Ok (frame.TransportRefusal refusal)) frames = numbers kind_transport_refusal 0 (refusal_code refusal) 0 0 0 frames
 frame_numbers (Ok (frame.Answered a)) frames = answer_numbers a frames

@@ -59,8 +59,8 @@ pub fn of_frame(answer: Result<FrameAnswer, CallError>, frame_count: usize, res:
         Ok(FrameAnswer::Nothing) => {
             capi_numbers::of_kind(Kind::Joined as u32, 0, 0, frame_count, res)
         }
-        Ok(FrameAnswer::TransportRefusal(code)) => {
-            capi_numbers::of_kind(Kind::TransportRefusal as u32, 0, code, frame_count, res)
+        Ok(FrameAnswer::TransportRefusal(refusal)) => {
+            capi_numbers::of_kind(Kind::TransportRefusal as u32, 0, refusal.code(), frame_count, res)
         }
         Ok(FrameAnswer::Answered(done)) => of_answer(done, frame_count, res),
     }

@@ -15,6 +15,7 @@ use Rattle.buffer.specs.Buffer.{over, put_at}
 use Rattle.buffer.proofs.Choice.{cond-elim}
 use Rattle.buffer.proofs.Laws.{placed-fits}
 use Rattle.call_error.specs.declared.CallError.{CallError}
+use Rattle.can_frame.specs.Refusal.{refusal_code}
 use Rattle.can_frame.specs.declared.Frame.{Frame}
 use Rattle.can_frame.specs.Frame.{header_of, frame_of}
 use Rattle.can_frame_bytes.specs.Layout.{frames_bytes}
@@ -72,7 +73,7 @@ unfolding frames_to_send
 sent-full board tool (caller_error error) = tt
 sent-full board tool ignored_frame = tt
 sent-full board tool nothing = tt
-sent-full board tool (transport_refusal code) = rejected-full board tool code
+sent-full board tool (transport_refusal refusal) = rejected-full board tool (refusal_code refusal)
 sent-full board tool (handled (datagram_rejected rejection)) = append_full (rejected_with board tool (code_of rejection)) [] (rejected-full board tool (code_of rejection)) tt
 sent-full board tool (handled (written index n)) = append_full (received_ok board tool 0x00) [] (ok_full board tool 0x00) tt
 sent-full board tool (handled update_completed) = append_full (received_ok board tool 0x00) [] (ok_full board tool 0x00) tt

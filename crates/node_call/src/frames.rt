@@ -48,7 +48,7 @@ pub fn answer_outcome(
     match outcome {
         Outcome::Ignored => FrameAnswer::Ignored,
         Outcome::NoAnswer => FrameAnswer::Nothing,
-        Outcome::TransportRefusal(code) => FrameAnswer::TransportRefusal(code),
+        Outcome::TransportRefusal(refusal) => FrameAnswer::TransportRefusal(refusal),
         Outcome::InFrame => answer_datagram(
             board,
             memory,

@@ -102,7 +102,7 @@ module _ (board tool : ℕ) (buffer : List ℕ) where
   sent-from (caller_error error) = refl
   sent-from ignored_frame = refl
   sent-from nothing = refl
-  sent-from (transport_refusal code) = refl
+  sent-from (transport_refusal refusal) = refl
   sent-from (handled (datagram_rejected rejection)) = refl
   sent-from (handled (written index n)) = refl
   sent-from (handled update_completed) = refl

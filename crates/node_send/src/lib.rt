@@ -39,8 +39,8 @@ pub fn frames_to_send(
         Err(_) => 0,
         Ok(FrameAnswer::Ignored) => 0,
         Ok(FrameAnswer::Nothing) => 0,
-        Ok(FrameAnswer::TransportRefusal(code)) => tx_transport::rejected(
-            board, tool, code, frames,
+        Ok(FrameAnswer::TransportRefusal(refusal)) => tx_transport::rejected(
+            board, tool, refusal.code(), frames,
         ),
         Ok(FrameAnswer::Answered(done)) => send_answer(done, reply, board, tool, frames),
     }

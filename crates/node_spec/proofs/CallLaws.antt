@@ -74,14 +74,14 @@ module _ (x : Fixed) (c : Contents) (st : State) {r : OrError FrameAnswer} {befo
   event-small buffer g (refused_by error) p = rw p.answer tt
   event-small buffer g (brings ignored) p = rw p.answer tt
   event-small buffer g (brings no_answer) p = rw p.answer tt
-  event-small buffer g (brings (refuse code)) p = rw p.answer tt
+  event-small buffer g (brings (refuse refusal)) p = rw p.answer tt
   event-small buffer g (brings (finish d)) p = rw p.answer (answer-small x c d buffer g p.short)
 
   pub event-changes : (e : CallEvent) → Answers (answer_call x st c e) r before after left → FrameChanges r c.memory left.memory
   event-changes (refused_by error) p = rw p.answer (ap (λ (k : Contents). k.memory) p.contents)
   event-changes (brings ignored) p = rw p.answer (ap (λ (k : Contents). k.memory) p.contents)
   event-changes (brings no_answer) p = rw p.answer (ap (λ (k : Contents). k.memory) p.contents)
-  event-changes (brings (refuse code)) p = rw p.answer (ap (λ (k : Contents). k.memory) p.contents)
+  event-changes (brings (refuse refusal)) p = rw p.answer (ap (λ (k : Contents). k.memory) p.contents)
   event-changes (brings (finish d)) p = rw (p.answer, p.contents) (handle-bounds x c d).changes
 
 -- ---- a call by what its check finds

@@ -12,7 +12,8 @@ use Rattle.space_table.specs.declared.Space.{Space}
 use Rattle.call_error.specs.CallErrors.{among, spaces_check, description_check}
 use Rattle.call_error.specs.declared.CallError.TheVariants.{B6ReplyBufferTooShort, B7BadReceptionState}
 use Rattle.can_frame.specs.Frame.{CanFrame, can_frame, kind_of_frame, addressed, role_of}
-use Rattle.rx_place_spec.specs.Place.{Place, held_for}
+use Rattle.rx_place_spec.specs.declared.Place.{Place}
+use Rattle.rx_place_spec.specs.Place.{held_for}
 use Rattle.rx_place_spec.specs.Ticks.{tick_at, age, is_due, drop_due}
 use Rattle.rx_spec.specs.Times.{Timed, InTime, moments_of}
 use Rattle.rx_place_spec.specs.State.{State, state}

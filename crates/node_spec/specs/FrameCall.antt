@@ -39,7 +39,7 @@ abbrev pub frame_answer_of : order.CallAnswer CallError Result → OrError Frame
 frame_answer_of (caller_error error) = Err error
 frame_answer_of ignored_frame = Ok answer.Ignored
 frame_answer_of nothing = Ok answer.Nothing
-frame_answer_of (transport_refusal code) = Ok (answer.TransportRefusal code)
+frame_answer_of (transport_refusal refusal) = Ok (answer.TransportRefusal refusal)
 frame_answer_of (handled r) = Ok (answer.Answered (answer_of r))
 
 -- The reply buffer afterwards: untouched but for a reply.
@@ -47,7 +47,7 @@ abbrev pub frame_buffer_of : order.CallAnswer CallError Result → List ℕ → 
 frame_buffer_of (caller_error error) buffer = buffer
 frame_buffer_of ignored_frame buffer = buffer
 frame_buffer_of nothing buffer = buffer
-frame_buffer_of (transport_refusal code) buffer = buffer
+frame_buffer_of (transport_refusal refusal) buffer = buffer
 frame_buffer_of (handled r) buffer = buffer_of r buffer
 
 -- "No reply is over 72 bytes", and a write has "1–64 data bytes".
@@ -55,7 +55,7 @@ abbrev pub ShortFrame : order.CallAnswer CallError Result → Type 0
 ShortFrame (caller_error error) = Unit {0}
 ShortFrame ignored_frame = Unit {0}
 ShortFrame nothing = Unit {0}
-ShortFrame (transport_refusal code) = Unit {0}
+ShortFrame (transport_refusal refusal) = Unit {0}
 ShortFrame (handled r) = Short r
 
 -- The answer r, the buffer `after` and the contents `left` are what x says, over the buffer `before`.
@@ -83,7 +83,7 @@ abbrev pub SmallFrame : OrError FrameAnswer → Type 0
 SmallFrame (Err error) = Unit {0}
 SmallFrame (Ok answer.Ignored) = Unit {0}
 SmallFrame (Ok answer.Nothing) = Unit {0}
-SmallFrame (Ok (answer.TransportRefusal code)) = Unit {0}
+SmallFrame (Ok (answer.TransportRefusal refusal)) = Unit {0}
 SmallFrame (Ok (answer.Answered a)) = SmallAnswer a
 
 -- Memory, which was `old` and is `new`, by the answer: only a finished datagram changes it, in the bytes that its
@@ -92,7 +92,7 @@ abbrev pub FrameChanges : OrError FrameAnswer → List ℕ → List ℕ → Type
 FrameChanges (Err error) old new = new ≡ old
 FrameChanges (Ok answer.Ignored) old new = new ≡ old
 FrameChanges (Ok answer.Nothing) old new = new ≡ old
-FrameChanges (Ok (answer.TransportRefusal code)) old new = new ≡ old
+FrameChanges (Ok (answer.TransportRefusal refusal)) old new = new ≡ old
 FrameChanges (Ok (answer.Answered a)) old new = Changes a old new
 
 -- The bytes of the places, which were `before` and are `after`, and the pool are what x says. A place that is changed

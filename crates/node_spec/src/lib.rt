@@ -2,6 +2,7 @@
 // themselves and demand 3 are definitions, in specs/, with their theorem; the code that meets them is in `node_call`.
 #![tactic(auto)]
 
+use can_frame::TransportRefusal;
 use reply_answer::Answer;
 
 // What comes of a frame: it is ignored; it is joined or swallowed and not answered; a transport refusal, sent as
@@ -10,6 +11,6 @@ use reply_answer::Answer;
 pub enum FrameAnswer {
     Ignored,
     Nothing,
-    TransportRefusal(u16),
+    TransportRefusal(TransportRefusal),
     Answered(Answer),
 }

@@ -1,30 +1,29 @@
 -- Laws of what the search found: the caller's errors from B7 on, and the place of a source after what is due is
 -- dropped.
 -- Assumes nothing.
-use Prim.Native.Nat.{ℕ, suc, ◌≤◌}
+use Prim.Native.Nat.{ℕ, suc, ◌≤◌, ◌<◌}
 use mathlib.Core.Path.{◌≡◌, refl, sym, ap, ◌∙◌}
 use mathlib.Core.Bool.{Bool, true, false, cond}
 use mathlib.Core.List.{List, [], ◌∷◌}
-use native.Mathlib.Omega.{arith}
-use lib.Dec.{eqb}
+use lib.Dec.{ltb}
 use lib.ListN.{length, get_or}
-use borrow.Author.Tests.{eq-eqb, ne_eqb}
+use borrow.Author.Tests.{ltb-true, ltb-false}
 use Rattle.buffer.proofs.Choice.{clash, by-test}
-use Rattle.rx_place_spec.specs.Place.{Place, free_place}
+use Rattle.rx_place_spec.specs.declared.Place.{Place}
+use Rattle.rx_place_spec.specs.Place.{free_place}
 use Rattle.rx_place_spec.specs.Ticks.{is_due, drop_due}
-use Rattle.rx_spec.specs.Reception.{is_for, place_of, has_place, sound}
+use Rattle.rx_spec.specs.Reception.{is_for, place_of, sound}
 use Rattle.rx_place_spec.specs.PlaceBytes.{places_in, state_in, renewed}
-use Rattle.rx_spec.proofs.PlaceLaws.{is_for-held, is_for-source, is_for-free, Good, sound-good, place_found, place_out}
+use Rattle.rx_spec.proofs.PlaceLaws.{is_for-held, is_for-source, is_for-free, Good, sound-good, place_out}
 use Rattle.rx_place_spec.proofs.ByteLaws.{places-length}
 use Rattle.rx_spec.proofs.DropLaws.{by-due, after-not, none-due, length-due}
 use Rattle.call_error.specs.CallErrors.{or_else, Checked}
-use Rattle.call_error.proofs.Laws.{or_else_passed}
 use Rattle.call_error.specs.declared.CallError.TheVariants.{B7BadReceptionState}
 use Rattle.rx_join_spec.specs.StateCheck.{state_check}
-use Rattle.rx_join_spec.proofs.CheckLaws.{passed-sound}
 use Rattle.rx_search.specs.declared.Looked.{Looked}
-use Rattle.rx_search.specs.Search.{any_due, looked, looked_up}
-use Rattle.std.specs.Prelude.{Ok, Err}
+use Rattle.rx_search.specs.declared.Unsound.{Unsound}
+use Rattle.rx_search.specs.Search.{there, any_due, looked, looked_up}
+use Rattle.std.specs.Prelude.{Ok, Err, Some, None}
 
 -- nothing is due, and nothing is dropped
 none_dropped : (now : ℕ) (ps : List Place) → any_due now ps ≡ false → drop_due now ps ≡ ps
@@ -60,63 +59,51 @@ place_after now s (p ∷ ps) g = go (is_for s p) refl (place_after now s ps g.1)
 
 -- ---- what the search found
 
-module _ (s now : ℕ) (xs : List ℕ) (l : Looked) (e : l ≡ looked_up s now (places_in xs)) where
+module _ (s now : ℕ) (xs pool : List ℕ) where
   abbrev ps : List Place
   ps = places_in xs
 
-  by-sound : (b : Bool) → sound ps ≡ b → l ≡ cond b (looked (place_of s ps) (any_due now ps)) (looked 9 false)
+  -- B7 refuses the places
+  pub b7_refuses : {u : Unsound} (later : Checked) → Err u ≡ looked_up s now ps → or_else (state_check (state_in xs pool)) later ≡ Err B7BadReceptionState
   unfolding looked_up
-  by-sound b q = e ∙ rw q
+  b7_refuses later e = by-test (sound ps) (λ q. absurd (let n = rw q at e in cc)) (λ q. rw q)
 
-  at_most : place_of s ps ≤ 8
-  at_most =
-      by-test (has_place s ps)
-      (λ u. omega (arith, places-length xs, (place_found s ps [] u).inside))
-      (λ u. omega (arith, places-length xs, place_out s ps u))
+  module _ {l : Looked} (e : Ok l ≡ looked_up s now ps) where
+    -- it lets them pass
+    pub lets-pass : sound ps ≡ true
+    unfolding looked_up
+    lets-pass = by-test (sound ps) (λ q. q) (λ q. absurd (let n = rw q at e in cc))
 
-  -- B7, and what comes after it
-  b7_is : (pool : List ℕ) → cond (eqb l.found 9) (Err B7BadReceptionState) (Ok tt) ≡ state_check (state_in xs pool)
-  b7_is pool =
-      by-test (sound ps)
-      (λ q. let z = at_most in
-      let f : l.found ≡ place_of s ps = ap (λ (v : Looked). v.found) (by-sound true q) in
-      rw (ne_eqb l.found 9 (λ y. omega (arith, y, z, f)), q))
-      (λ q. rw (eq-eqb l.found 9 (ap (λ (v : Looked). v.found) (by-sound false q)), q))
+    found-is : l ≡ looked (place_of s ps) (any_due now ps)
+    unfolding looked_up
+    found-is = let n = rw lets-pass at e in cc
 
-  pub first-error_is : (pool : List ℕ) (later : Checked) → or_else (cond (eqb l.found 9) (Err B7BadReceptionState) (Ok tt)) later ≡ or_else (state_check (state_in xs pool)) later
-  first-error_is pool later = ap (λ (c : Checked). or_else c later) (b7_is pool)
+    pub later-is : (later : Checked) → or_else (state_check (state_in xs pool)) later ≡ later
+    later-is later = rw lets-pass
 
-  -- the place that is found and what is left, where B7 lets the places pass
-  pub record Arrives (r : ℕ) (after : List ℕ) : Type 0 where
-    pub found : r ≡ place_of s (drop_due now ps)
-    pub places : places_in after ≡ drop_due now ps
-    pub renewal : after ≡ renewed (drop_due now ps) xs
+    -- the place that is found and what is left
+    pub record Arrives (r : ℕ) (after : List ℕ) : Type 0 where
+      pub found : r ≡ place_of s (drop_due now ps)
+      pub places : places_in after ≡ drop_due now ps
+      pub renewal : after ≡ renewed (drop_due now ps) xs
 
-  pub arrived : sound ps ≡ true → {r : ℕ} {after : List ℕ} → r ≡ cond l.due (cond (get_or (places_in after) l.found free_place).held l.found 8) l.found →
-      places_in after ≡ cond l.due (drop_due now ps) ps → after ≡ renewed (cond l.due (drop_due now ps) ps) xs → Arrives r after
-  arrived ok f p b =
-      let y : l.found ≡ place_of s ps = ap (λ (v : Looked). v.found) (by-sound true ok) in
-      by-test l.due
-      (λ d. let q : places_in _ ≡ drop_due now ps = rw d at p in
-      record {
-        found = rw (d, q, y) at f ∙ sym (place_after now s ps (sound-good ps ok) ∙ rw (places-length xs));
-        places = q;
-        renewal = rw d at b;
-      })
-      (λ d. let n : drop_due now ps ≡ ps = none_dropped now ps (ap (λ (v : Looked). v.due) (sym (by-sound true ok)) ∙ d) in
-      record { found = rw d at f ∙ y ∙ rw n; places = rw d at p ∙ sym n; renewal = rw (d, ← n) at b })
+    pub arrived : {r : ℕ} {after : List ℕ} → r ≡ cond l.due (cond (get_or (places_in after) l.place free_place).held l.place 8) l.place →
+        places_in after ≡ cond l.due (drop_due now ps) ps → after ≡ renewed (cond l.due (drop_due now ps) ps) xs → Arrives r after
+    arrived f p b =
+        let y : l.place ≡ place_of s ps = ap (λ (v : Looked). v.place) found-is in
+        by-test l.due
+        (λ d. let q : places_in _ ≡ drop_due now ps = rw d at p in
+        let k = place_after now s ps (sound-good ps lets-pass) ∙ rw (places-length xs) in
+        record {
+          found = rw (d, q, y) at f ∙ sym k;
+          places = q;
+          renewal = rw d at b;
+        })
+        (λ d. let n : drop_due now ps ≡ ps = none_dropped now ps (ap (λ (v : Looked). v.due) (sym found-is) ∙ d) in
+        record { found = rw d at f ∙ y ∙ rw n; places = rw d at p ∙ sym n; renewal = rw (d, ← n) at b })
 
-  -- no error applies, so B7 lets the places pass, and the drop left what it says
-  pub record Passes (pool : List ℕ) (later : Checked) (r : ℕ) (after : List ℕ) : Type 0 where
-    pub none : or_else (state_check (state_in xs pool)) later ≡ Ok tt
-    pub ok : sound ps ≡ true
-    pub left : Arrives r after
+pub there_some : (n : ℕ) {k : ℕ} → there n ≡ Some k → (k ≡ n) × (k < 8)
+there_some n {k} e = by-test (ltb n 8) (λ q. let x : Some n ≡ Some k = rw q at e in let y : k ≡ n = cc in (y, rw y (ltb-true n 8 q))) (λ q. absurd (let x = rw q at e in cc))
 
-  pub passes : (pool : List ℕ) (later : Checked) {checked : Checked} →
-      checked ≡ or_else (cond (eqb l.found 9) (Err B7BadReceptionState) (Ok tt)) later → checked ≡ Ok tt →
-      {r : ℕ} {after : List ℕ} → r ≡ cond l.due (cond (get_or (places_in after) l.found free_place).held l.found 8) l.found →
-      places_in after ≡ cond l.due (drop_due now ps) ps → after ≡ renewed (cond l.due (drop_due now ps) ps) xs → Passes pool later r after
-  passes pool later q p f g b =
-      let n : or_else (state_check (state_in xs pool)) later ≡ Ok tt = sym (q ∙ first-error_is pool later) ∙ p in
-      let ok : sound ps ≡ true = passed-sound (state_in xs pool) (or_else_passed (state_check (state_in xs pool)) later n).0 in
-      record { none = n; ok = ok; left = arrived ok f g b }
+pub there_none : (n : ℕ) → there n ≡ None → 8 ≤ n
+there_none n e = by-test (ltb n 8) (λ q. absurd (let x = rw q at e in cc)) (λ q. ltb-false n 8 q)

@@ -41,9 +41,11 @@ pub fn join(
     ensures rejection { OneRejection }
 {
     let source = can_frame::source_of(header);
-    let looked = rx_search::look_up(places, source, tick);
-    arrival::first_error(looked.found, later)?;
-    let i = arrival::arrive(places, looked.found, looked.due, tick);
+    let Ok(looked) = rx_search::look_up(places, source, tick) else {
+        return Err(CallError::B7BadReceptionState);
+    };
+    later?;
+    let i = arrival::arrive(places, looked, tick);
     if 8 < payload.len() {
         return Ok(Outcome::Ignored);
     }

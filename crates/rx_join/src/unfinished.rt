@@ -6,11 +6,13 @@ ghost use Rattle.rx_step.specs.declared.Step.TheVariants as does;
 ghost use Rattle.rx_place_spec.specs.Place.{free_place};
 ghost use Rattle.rx_spec.specs.Reception.{free_in, place_of, sound, join_sound};
 ghost use Rattle.rx_place_spec.specs.PlaceBytes.{places_in, place_bytes, state_in, state_before};
+ghost use Rattle.rx_search.specs.Search.{there};
 ghost use Rattle.rx_join_spec.specs.Joins.{Joins, Lies};
 ghost use Rattle.rx_join_spec.specs.Inner.{Lent, Appendable, Own, Allowed, step_done, LiesAfter};
 
-use can_frame::Role;
+use can_frame::{Role, TransportRefusal};
 use rx_join_spec::Outcome;
+use rx_place::PLACES;
 use rx_step::Step;
 
 // A frame's source, data, tick and place are arguments of their own, and so are pool and places. Structs of them would
@@ -20,9 +22,6 @@ use rx_step::Step;
 
 // The bytes of the pool for each place.
 const PLACE_ROOM: u32 = 72;
-
-// The code of the transport refusal where there is no free place.
-const BUFFER_UNAVAILABLE: u16 = 0x2020;
 
 // Where the bytes of place i begin in the pool. The product has 32 bits: for one of 64, a processor that has none calls
 // a routine.
@@ -43,14 +42,19 @@ fn leave(places: &mut [u8], i: usize, outcome: Outcome) -> Outcome
 
 // The frame refused, and place i kept for its source, which is being swallowed from now on. The tick stays: a refused
 // frame is not accepted.
-fn refuse_and_swallow(places: &mut [u8; 64], i: usize, source: u16, code: u16) -> Outcome
+fn refuse_and_swallow(
+    places: &mut [u8; 64],
+    i: usize,
+    source: u16,
+    refusal: TransportRefusal,
+) -> Outcome
     requires { Own i source false places.old }
-    ensures { (pool d : List ℕ) (at : ℕ) → Joins (step_done (does.RefuseAndSwallow code) true source i d at
+    ensures { (pool d : List ℕ) (at : ℕ) → Joins (step_done (does.RefuseAndSwallow refusal) true source i d at
         (state_in places.old pool)) d result places.old places.new pool }
 {
     let tick = rx_place::tick_at(places, i);
     rx_place::swallow(places, i, source, tick);
-    Outcome::TransportRefusal(code)
+    Outcome::TransportRefusal(refusal)
 }
 
 // Whether a place of a source that is being swallowed, with that length and tick, is as a frame at the tick `at` leaves
@@ -75,12 +79,12 @@ fn swallow(places: &mut [u8; 64], i: usize, source: u16, len: u8, tick: u16) -> 
     Outcome::NoAnswer
 }
 
-// Where a datagram is opened: in place i, where it is there, and otherwise in the first free one.
-fn room_for(places: &[u8; 64], i: usize) -> usize
-    ensures { result ≡ cond (ltb i 8) i (free_in (places_in places.now)) }
+// Where a datagram is opened: in place i, where it is there, and otherwise in the first free one, if there is one.
+fn room_for(places: &[u8; 64], i: usize) -> Option<usize>
+    ensures { result ≡ there (cond (ltb i 8) i (free_in (places_in places.now))) }
 {
-    if i < rx_search::NO_PLACE {
-        i
+    if i < PLACES {
+        Some(i)
     } else {
         rx_search::find_free(places)
     }
@@ -100,10 +104,9 @@ fn open(
     ensures { Joins (step_done does.Open (ltb i 8) source i payload.now tick (state_before places pool))
         payload.now result places.old places.new pool.new }
 {
-    let k = room_for(places, i);
-    if rx_search::NO_PLACE <= k {
-        return Outcome::TransportRefusal(BUFFER_UNAVAILABLE);
-    }
+    let Some(k) = room_for(places, i) else {
+        return Outcome::TransportRefusal(TransportRefusal::BufferUnavailable);
+    };
     buffer::put(pool, room_at(k), payload);
     rx_place::hold(places, k, source, payload.len() as u8, tick);
     Outcome::NoAnswer
@@ -143,7 +146,7 @@ fn close(pool: &mut [u8], places: &mut [u8; 64], i: usize, len: u8, payload: &[u
     Outcome::InPool(from, end + payload.len())
 }
 
-// A step taken for a frame of the source, whose place is i, with the length `len`, or `NO_PLACE`.
+// A step taken for a frame of the source, whose place is i, with the length `len`, or `PLACES`.
 fn take_step(
     pool: &mut [u8],
     places: &mut [u8; 64],
@@ -166,15 +169,15 @@ fn take_step(
         Step::Open => open(pool, places, i, source, payload, tick),
         Step::Append => append(pool, places, i, source, len, payload, tick),
         Step::Close => close(pool, places, i, len, payload),
-        Step::Refuse(code) => leave(places, i, Outcome::TransportRefusal(code)),
-        Step::RefuseAndSwallow(code) => refuse_and_swallow(places, i, source, code),
+        Step::Refuse(refusal) => leave(places, i, Outcome::TransportRefusal(refusal)),
+        Step::RefuseAndSwallow(refusal) => refuse_and_swallow(places, i, source, refusal),
         Step::Swallow => swallow(places, i, source, len, tick),
         Step::SwallowLast => leave(places, i, Outcome::NoAnswer),
     }
 }
 
 // A frame of at most 8 bytes joined to a state that B7 lets pass. Where its source is not unfinished, i is
-// `NO_PLACE`.
+// `PLACES`: such a place reads as free, and changing it changes nothing.
 pub fn join_sound(
     pool: &mut [u8],
     places: &mut [u8; 64],
@@ -192,12 +195,6 @@ pub fn join_sound(
 {
     let len = rx_place::len_at(places, i);
     let swallowing = rx_place::is_swallowing(places, i);
-    let step = rx_step::step_of(
-        role,
-        payload.len() as u8,
-        i < rx_search::NO_PLACE,
-        swallowing,
-        len,
-    );
+    let step = rx_step::step_of(role, payload.len() as u8, i < PLACES, swallowing, len);
     take_step(pool, places, step, source, payload, tick, i, len)
 }

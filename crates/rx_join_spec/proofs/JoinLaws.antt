@@ -13,15 +13,18 @@ use borrow.Author.Tests.{ltb-true, ltb-false, lt-ltb, leb-true, eqb-true, eqb-fa
 use Rattle.buffer.specs.Buffer.{put_at, placed}
 use Rattle.buffer.proofs.Choice.{clash, by-test, and_left, and_right}
 use Rattle.buffer.proofs.Laws.{placed-fits, placed-not, take_put, drop-put}
+use Rattle.can_frame.specs.declared.TransportRefusal.{TransportRefusal}
 use Rattle.can_frame.specs.declared.Role.{Role}
 use Rattle.can_frame.specs.declared.Role.TheVariants.{Ignored, Single, First, Middle, Last}
+use Rattle.can_frame.specs.declared.TransportRefusal.TheVariants.{OutOfOrder, TemporaryError, BufferUnavailable}
 use Rattle.can_frame.specs.Frame.{can_frame, source_of, addressed, role_of}
 use Rattle.rx_step.specs.declared.Step.{Step}
 use Rattle.rx_step.specs.declared.Step.TheVariants.{Ignore, Deliver, Open, Append, Close, Refuse, RefuseAndSwallow, Swallow, SwallowLast}
 use Rattle.rx_step.specs.Step.{step_new, step_more, step_swallowed, step_of}
-use Rattle.rx_place_spec.specs.Place.{Place, place, held_for, swallowing_for, free_place}
+use Rattle.rx_place_spec.specs.declared.Place.{Place}
+use Rattle.rx_place_spec.specs.Place.{place, held_for, swallowing_for, free_place}
 use Rattle.rx_place_spec.specs.Ticks.{drop_due}
-use Rattle.rx_spec.specs.Books.{Event, blank, holds, swallowing, no_answer, refuse, finish, out_of_order, temporary_error, buffer_unavailable}
+use Rattle.rx_spec.specs.Books.{Event, blank, holds, swallowing, no_answer, refuse, finish}
 use Rattle.rx_place_spec.specs.State.{State, state}
 use Rattle.rx_spec.specs.Reception.{place_of, free_in, has_place, full, size_at, bytes_of_place, dropped, appended, closed, kept_after_refusal, Joined, joined, join_rule, join_sound, receive, is_for, sound, at_tick}
 use Rattle.rx_place_spec.specs.PlaceBytes.{places_in, place_bytes, state_in, same_place, renewed}
@@ -46,14 +49,14 @@ module _ (s i : ℕ) (d : List ℕ) (now : ℕ) (pool xs : List ℕ) (k : ℕ) (
   abbrev opening : Bool → Joined
   opening b = step_done Open b s i d now (state_in xs pool)
 
-  pub open_full : 8 ≤ k → Joins (opening (ltb i 8)) d (outcome.TransportRefusal buffer_unavailable) xs xs pool
+  pub open_full : 8 ≤ k → Joins (opening (ltb i 8)) d (outcome.TransportRefusal BufferUnavailable) xs xs pool
   open_full h = found (ltb i 8) refl
     where
-      go : (b : Bool) → full (places_in xs) ≡ b → k ≡ free_in (places_in xs) → Joins (opening false) d (outcome.TransportRefusal buffer_unavailable) xs xs pool
-      go true q n = rw q (stays_joins d pool xs (outcome.TransportRefusal buffer_unavailable) (refuse buffer_unavailable) refl tt)
+      go : (b : Bool) → full (places_in xs) ≡ b → k ≡ free_in (places_in xs) → Joins (opening false) d (outcome.TransportRefusal BufferUnavailable) xs xs pool
+      go true q n = rw q (stays_joins d pool xs (outcome.TransportRefusal BufferUnavailable) (refuse BufferUnavailable) refl tt)
       go false q n = absurd (omega (arith, places-length xs, (free (places_in xs) q).inside))
 
-      found : (b : Bool) → ltb i 8 ≡ b → Joins (opening b) d (outcome.TransportRefusal buffer_unavailable) xs xs pool
+      found : (b : Bool) → ltb i 8 ≡ b → Joins (opening b) d (outcome.TransportRefusal BufferUnavailable) xs xs pool
       found true q = let n : k ≡ i = rw q at e in absurd (omega (arith, ltb-true i 8 q))
       found false q = go (full (places_in xs)) refl (rw q at e)
 
@@ -94,9 +97,9 @@ module _ (i s : ℕ) (d : List ℕ) (now : ℕ) (pool xs : List ℕ) where
   held = get_or (places_in xs) i free_place
 
   -- a refused frame, after which what follows is swallowed
-  pub refuse-and-swallow_done : (unfinished : Bool) (code tick : ℕ) (after : List ℕ) → Own i s false xs → tick ≡ held.tick → Changed i (swallowing_for s tick) xs after →
-      Joins (step_done (RefuseAndSwallow code) unfinished s i d now (state_in xs pool)) d (outcome.TransportRefusal code) xs after pool
-  refuse-and-swallow_done unfinished code tick after u e c =
+  pub refuse-and-swallow_done : (unfinished : Bool) (refusal : TransportRefusal) (tick : ℕ) (after : List ℕ) → Own i s false xs → tick ≡ held.tick → Changed i (swallowing_for s tick) xs after →
+      Joins (step_done (RefuseAndSwallow refusal) unfinished s i d now (state_in xs pool)) d (outcome.TransportRefusal refusal) xs after pool
+  refuse-and-swallow_done unfinished refusal tick after u e c =
       rw (← e)
       (record {
         places = changed-places c;
@@ -202,8 +205,8 @@ Ruled Deliver b w l n = Unit {0}
 Ruled Open b w l n = b ≡ true → w ≡ true
 Ruled Append b w l n = (b ≡ true) × (w ≡ false) × (0 < n) × (l + n ≤ 72)
 Ruled Close b w l n = (b ≡ true) × (w ≡ false) × (l + n ≤ 72)
-Ruled (Refuse code) b w l n = Unit {0}
-Ruled (RefuseAndSwallow code) b w l n = (b ≡ true) × (w ≡ false)
+Ruled (Refuse refusal) b w l n = Unit {0}
+Ruled (RefuseAndSwallow refusal) b w l n = (b ≡ true) × (w ≡ false)
 Ruled Swallow b w l n = (b ≡ true) × (w ≡ true)
 Ruled SwallowLast b w l n = Unit {0}
 
@@ -214,13 +217,13 @@ ruled Single n true false l = (refl, refl)
 ruled First n true false l = (refl, refl)
 ruled Middle n true false l = go (eqb n 0) refl (leb (l + n) 72) refl
   where
-    go : (z : Bool) → eqb n 0 ≡ z → (f : Bool) → leb (l + n) 72 ≡ f → Ruled (cond z (RefuseAndSwallow 0x2040) (cond f Append (RefuseAndSwallow 0x2000))) true false l n
+    go : (z : Bool) → eqb n 0 ≡ z → (f : Bool) → leb (l + n) 72 ≡ f → Ruled (cond z (RefuseAndSwallow OutOfOrder) (cond f Append (RefuseAndSwallow TemporaryError))) true false l n
     go true y f q = (refl, refl)
     go false y true q = (refl, refl, omega (arith, eqb-false n 0 y), leb-true (l + n) 72 q)
     go false y false q = (refl, refl)
 ruled Last n true false l = go (leb (l + n) 72) refl
   where
-    go : (f : Bool) → leb (l + n) 72 ≡ f → Ruled (cond f Close (Refuse 0x2000)) true false l n
+    go : (f : Bool) → leb (l + n) 72 ≡ f → Ruled (cond f Close (Refuse TemporaryError)) true false l n
     go true q = (refl, refl, leb-true (l + n) 72 q)
     go false q = tt
 ruled Ignored n true true l = tt
@@ -276,14 +279,14 @@ module _ (s i : ℕ) (d : List ℕ) (now : ℕ) (pool xs : List ℕ) (m : Lent p
   more Middle h = rw (← e, h) (go (eqb (length d) 0) (leb (len + length d) 72))
     where
       go : (z f : Bool) →
-          cond z (joined (kept_after_refusal s i here) (refuse out_of_order)) (cond f (joined (appended s d now i here) no_answer) (joined (kept_after_refusal s i here) (refuse temporary_error)))
-          ≡ step_done (cond z (RefuseAndSwallow 0x2040) (cond f Append (RefuseAndSwallow 0x2000))) true s i d now here
+          cond z (joined (kept_after_refusal s i here) (refuse OutOfOrder)) (cond f (joined (appended s d now i here) no_answer) (joined (kept_after_refusal s i here) (refuse TemporaryError)))
+          ≡ step_done (cond z (RefuseAndSwallow OutOfOrder) (cond f Append (RefuseAndSwallow TemporaryError))) true s i d now here
       go true f = refl
       go false true = refl
       go false false = refl
   more Last h = rw (← e, h) (go (leb (len + length d) 72))
     where
-      go : (f : Bool) → cond f (joined (closed d i here) (finish (bytes_of_place i here ++ d))) (joined (dropped i here) (refuse temporary_error)) ≡ step_done (cond f Close (Refuse 0x2000)) true s i d now here
+      go : (f : Bool) → cond f (joined (closed d i here) (finish (bytes_of_place i here ++ d))) (joined (dropped i here) (refuse TemporaryError)) ≡ step_done (cond f Close (Refuse TemporaryError)) true s i d now here
       go true = refl
       go false = refl
 
@@ -330,8 +333,8 @@ module _ (s i : ℕ) (d : List ℕ) (now : ℕ) (pool xs : List ℕ) (m : Lent p
     by-rule Open r = λ h. owned true (lt-ltb i 8 h) (r (lt-ltb i 8 h))
     by-rule Append r = fitting false r.0 r.3 (λ q. r.2)
     by-rule Close r = fitting true r.0 r.2 (λ q. absurd (true≢false q))
-    by-rule (Refuse code) r = tt
-    by-rule (RefuseAndSwallow code) r = owned false r.0 r.1
+    by-rule (Refuse refusal) r = tt
+    by-rule (RefuseAndSwallow refusal) r = owned false r.0 r.1
     by-rule Swallow r = (owned true r.0 r.1, k)
     by-rule SwallowLast r = tt
 

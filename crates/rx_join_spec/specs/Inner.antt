@@ -38,8 +38,8 @@ Allowed Deliver i s n bytes d = Unit {0}
 Allowed Open i s n bytes d = i < 8 → Own i s true bytes
 Allowed Append i s n bytes d = Appendable i n false bytes d
 Allowed Close i s n bytes d = Appendable i n true bytes d
-Allowed (Refuse code) i s n bytes d = Unit {0}
-Allowed (RefuseAndSwallow code) i s n bytes d = Own i s false bytes
+Allowed (Refuse refusal) i s n bytes d = Unit {0}
+Allowed (RefuseAndSwallow refusal) i s n bytes d = Own i s false bytes
 Allowed Swallow i s n bytes d = Own i s true bytes × (n ≡ (get_or (places_in bytes) i free_place).len)
 Allowed SwallowLast i s n bytes d = Unit {0}
 
@@ -55,8 +55,8 @@ step_done Deliver unfinished s i d now st = joined (freed_if unfinished i st) (f
 step_done Open unfinished s i d now st = cond unfinished (joined (opened s d now i st) no_answer) (join_rule First s d now st blank)
 step_done Append unfinished s i d now st = joined (appended s d now i st) no_answer
 step_done Close unfinished s i d now st = joined (closed d i st) (finish (bytes_of_place i st ++ d))
-step_done (Refuse code) unfinished s i d now st = joined (freed_if unfinished i st) (refuse code)
-step_done (RefuseAndSwallow code) unfinished s i d now st = joined (kept_after_refusal s i st) (refuse code)
+step_done (Refuse refusal) unfinished s i d now st = joined (freed_if unfinished i st) (refuse refusal)
+step_done (RefuseAndSwallow refusal) unfinished s i d now st = joined (kept_after_refusal s i st) (refuse refusal)
 step_done Swallow unfinished s i d now st = joined (swallowed s now i st) no_answer
 step_done SwallowLast unfinished s i d now st = joined (freed_if unfinished i st) no_answer
 
@@ -64,6 +64,6 @@ step_done SwallowLast unfinished s i d now st = joined (freed_if unfinished i st
 abbrev pub LiesAfter : Step → ℕ → Outcome → Type 0
 LiesAfter step i outcome.Ignored = Unit {0}
 LiesAfter step i outcome.NoAnswer = Unit {0}
-LiesAfter step i (outcome.TransportRefusal code) = Unit {0}
+LiesAfter step i (outcome.TransportRefusal refusal) = Unit {0}
 LiesAfter step i outcome.InFrame = step ≡ Deliver
 LiesAfter step i (outcome.InPool from end) = (step ≡ Close) × (from ≡ 72 * i)

@@ -19,7 +19,7 @@ pub data CallEvent : Type 0 where
 abbrev pub outcome_event : Outcome → List ℕ → List ℕ → Event
 outcome_event outcome.Ignored d bytes = ignored
 outcome_event outcome.NoAnswer d bytes = no_answer
-outcome_event (outcome.TransportRefusal code) d bytes = refuse code
+outcome_event (outcome.TransportRefusal refusal) d bytes = refuse refusal
 outcome_event outcome.InFrame d bytes = finish d
 outcome_event (outcome.InPool from end) d bytes = finish (take (end - from) (drop from bytes))
 
@@ -32,7 +32,7 @@ event_of (Ok o) d bytes = brings (outcome_event o d bytes)
 abbrev pub InsidePool : Outcome → Type 0
 InsidePool outcome.Ignored = Unit {0}
 InsidePool outcome.NoAnswer = Unit {0}
-InsidePool (outcome.TransportRefusal code) = Unit {0}
+InsidePool (outcome.TransportRefusal refusal) = Unit {0}
 InsidePool outcome.InFrame = Unit {0}
 InsidePool (outcome.InPool from end) = (from ≤ end) × (end ≤ 576)
 
@@ -41,7 +41,7 @@ InsidePool (outcome.InPool from end) = (from ≤ end) × (end ≤ 576)
 abbrev pub Lies : Role → ℕ → Outcome → Type 0
 Lies role i outcome.Ignored = Unit {0}
 Lies role i outcome.NoAnswer = Unit {0}
-Lies role i (outcome.TransportRefusal code) = Unit {0}
+Lies role i (outcome.TransportRefusal refusal) = Unit {0}
 Lies role i outcome.InFrame = role ≡ Single
 Lies role i (outcome.InPool from end) = (role ≡ Last) × (from ≡ 72 * i)
 

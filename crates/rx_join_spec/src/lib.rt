@@ -2,13 +2,15 @@
 // outcome; the code is in `rx_join`.
 #![tactic(auto)]
 
+use can_frame::TransportRefusal;
+
 // What a frame brings about. A finished datagram is the frame's own data, or the part of the pool from the first number
 // up to the second.
 #[derive(Clone, Copy)]
 pub enum Outcome {
     Ignored,
     NoAnswer,
-    TransportRefusal(u16),
+    TransportRefusal(TransportRefusal),
     InFrame,
     InPool(usize, usize),
 }

@@ -9,7 +9,8 @@ use lib.Dec.{ltb, eqb}
 use lib.ListN.{get_or}
 use borrow.Author.Tests.{ltb-true, ltb-false}
 use Rattle.buffer.proofs.Choice.{by-test}
-use Rattle.rx_place_spec.specs.Place.{Place, free_place}
+use Rattle.rx_place_spec.specs.declared.Place.{Place}
+use Rattle.rx_place_spec.specs.Place.{free_place}
 use Rattle.rx_place_spec.specs.PlaceBytes.{places_in}
 use Rattle.rx_place_spec.proofs.ByteLaws.{at_none, held_at, len-at, source-at, tick-at, swallowing-at}
 

@@ -4,12 +4,15 @@
 #![tactic(auto)]
 
 ghost use Rattle.std.specs.Prelude.{◌≡◌, cond, ◌+◌, ◌*◌, ◌<◌, ltb, get_or};
-ghost use Rattle.rx_place_spec.specs.Place.{free_place, place, held_for, swallowing_for};
+ghost use Rattle.rx_place_spec.specs.Place.{free_place, held_for, swallowing_for};
 ghost use Rattle.rx_spec.specs.Reception.{is_for};
 ghost use Rattle.rx_place_spec.specs.PlaceBytes.{places_in, place_bytes};
 ghost use Rattle.buffer.specs.Buffer.{placed};
 
-const PLACES: usize = 8;
+use rx_place_spec::Place;
+
+// How many places there are. An index from here on names none.
+pub const PLACES: usize = 8;
 
 // Byte k of place i: 0 where the place is not there.
 fn byte_of(places: &[u8; 64], i: usize, k: usize) -> u8
@@ -37,25 +40,18 @@ pub fn len_at(places: &[u8; 64], i: usize) -> u8
     byte_of(places, i, 1)
 }
 
-// The number of two bytes, least significant first.
-fn number_of(low: u8, high: u8) -> u16
-    ensures { result ≡ low + high * 256 }
-{
-    low as u16 + high as u16 * 256
-}
-
 // From whom it comes.
 pub fn source_at(places: &[u8; 64], i: usize) -> u16
     ensures { result ≡ (get_or (places_in places.now) i free_place).source }
 {
-    number_of(byte_of(places, i, 2), byte_of(places, i, 3))
+    u16::from_le_bytes([byte_of(places, i, 2), byte_of(places, i, 3)])
 }
 
 // The driver's tick at the last accepted frame of its source.
 pub fn tick_at(places: &[u8; 64], i: usize) -> u16
     ensures { result ≡ (get_or (places_in places.now) i free_place).tick }
 {
-    number_of(byte_of(places, i, 4), byte_of(places, i, 5))
+    u16::from_le_bytes([byte_of(places, i, 4), byte_of(places, i, 5)])
 }
 
 // Whether the source of place i is being swallowed, where the place is held.
@@ -69,68 +65,80 @@ pub fn is_swallowing(places: &[u8; 64], i: usize) -> bool
 pub fn is_for(places: &[u8; 64], i: usize, source: u16) -> bool
     ensures { result ≡ is_for source (get_or (places_in places.now) i free_place) }
 {
-    if is_held(places, i) {
-        return source_at(places, i) == source;
-    }
-    false
+    is_held(places, i) && source_at(places, i) == source
 }
 
 // What the byte of a place that has no meaning yet becomes where the place is changed.
 const SPARE: u8 = 0;
 
 // The bytes of a place.
-fn bytes_of(held: bool, len: u8, source: u16, tick: u16, swallowing: bool) -> [u8; 8]
-    ensures { result ≡ place_bytes (place held len source tick swallowing) }
+fn bytes_of(place: Place) -> [u8; 8]
+    ensures { result ≡ place_bytes place }
 {
+    let [source_low, source_high] = place.source.to_le_bytes();
+    let [tick_low, tick_high] = place.tick.to_le_bytes();
     [
-        held as u8,
-        len,
-        (source % 256) as u8,
-        (source / 256) as u8,
-        (tick % 256) as u8,
-        (tick / 256) as u8,
-        swallowing as u8,
+        place.held as u8,
+        place.len,
+        source_low,
+        source_high,
+        tick_low,
+        tick_high,
+        place.swallowing as u8,
         SPARE,
     ]
 }
 
 // The bytes of place i, as far as it is there. The test keeps `8 * i` small; `put` copies nothing that does not fit.
-fn put_place(
-    places: &mut [u8],
-    i: usize,
-    held: bool,
-    len: u8,
-    source: u16,
-    tick: u16,
-    swallowing: bool,
-)
-    ensures { places.new ≡ placed (8 * i) (place_bytes (place held len source tick swallowing)) places.old }
+fn put_place(places: &mut [u8], i: usize, place: Place)
+    ensures { places.new ≡ placed (8 * i) (place_bytes place) places.old }
 {
-    if places.len() / 8 <= i {
-        return;
+    if i < places.len() / 8 {
+        buffer::put(places, 8 * i, &bytes_of(place));
     }
-    let bytes = bytes_of(held, len, source, tick, swallowing);
-    buffer::put(places, 8 * i, &bytes);
 }
+
+// A place that is held for nobody: what is not said of another place is as in this one.
+const FREE: Place = Place {
+    held: false,
+    len: 0,
+    source: 0,
+    tick: 0,
+    swallowing: false,
+};
 
 // Place i holds `len` bytes of the source, whose last accepted frame came at the tick. A datagram opened with zero
 // bytes is held too.
 pub fn hold(places: &mut [u8], i: usize, source: u16, len: u8, tick: u16)
     ensures { places.new ≡ placed (8 * i) (place_bytes (held_for source len tick)) places.old }
 {
-    put_place(places, i, true, len, source, tick, false);
+    let unfinished = Place {
+        held: true,
+        len,
+        source,
+        tick,
+        ..FREE
+    };
+    put_place(places, i, unfinished);
 }
 
 // Place i is kept for the source, which is being swallowed, and whose last accepted frame came at the tick.
 pub fn swallow(places: &mut [u8], i: usize, source: u16, tick: u16)
     ensures { places.new ≡ placed (8 * i) (place_bytes (swallowing_for source tick)) places.old }
 {
-    put_place(places, i, true, 0, source, tick, true);
+    let swallowed = Place {
+        held: true,
+        source,
+        tick,
+        swallowing: true,
+        ..FREE
+    };
+    put_place(places, i, swallowed);
 }
 
 // Place i becomes free.
 pub fn free(places: &mut [u8], i: usize)
     ensures { places.new ≡ placed (8 * i) (place_bytes free_place) places.old }
 {
-    put_place(places, i, false, 0, 0, 0, false);
+    put_place(places, i, FREE);
 }

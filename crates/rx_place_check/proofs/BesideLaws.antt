@@ -1,7 +1,7 @@
 -- Laws of a place beside those before it: whether one of them is for a source, and B7.
 -- Assumes nothing.
 use mathlib.Core.Path.{◌≡◌, refl, sym, ap, ◌∙◌}
-use mathlib.Core.Bool.{Bool, true, false, not, ◌&&◌, ◌||◌}
+use mathlib.Core.Bool.{Bool, true, false, not, ◌||◌}
 use mathlib.Core.List.{List, [], ◌∷◌, ◌++◌}
 use Prim.Native.Nat.{ℕ, zero, suc, ◌+◌, ◌<◌}
 use native.Mathlib.Numerals.{add-one}
@@ -9,8 +9,9 @@ use lib.Dec.{leb, ltb}
 use lib.ListN.{length, take, get_or}
 use lib.Seq.{take-suc, get_or-take}
 use borrow.Author.Tests.{ltb-true, ltb-false}
-use Rattle.buffer.proofs.Choice.{clash, by-test, and_left, and_right}
-use Rattle.rx_place_spec.specs.Place.{Place, free_place}
+use Rattle.buffer.proofs.Choice.{clash, by-test, and_right}
+use Rattle.rx_place_spec.specs.declared.Place.{Place}
+use Rattle.rx_place_spec.specs.Place.{free_place}
 use Rattle.rx_spec.specs.Reception.{is_for, has_place, sound_beside}
 use Rattle.rx_place_spec.specs.PlaceBytes.{places_in}
 use Rattle.rx_spec.proofs.PlaceLaws.{is_for-free, none-head, none_tail}
@@ -22,10 +23,6 @@ use Rattle.rx_place_check.specs.Plain.{plain_beside}
 pub or_false : (b : Bool) → b || false ≡ b
 or_false true = refl
 or_false false = refl
-
-pub or_true : (b : Bool) → b || true ≡ true
-or_true true = refl
-or_true false = refl
 
 pub has_snoc : (s : ℕ) (xs : List Place) (p : Place) → has_place s (xs ++ p ∷ []) ≡ has_place s xs || is_for s p
 has_snoc s [] p = or_false (is_for s p)
@@ -54,7 +51,7 @@ has_later s i n ps h e = go (has_place s (take n ps)) refl
     go true q = q
     go false q = clash (sym e ∙ rw (get_or-take n ps i free_place h) at (none-at s i (take n ps) q))
 
--- ---- the test of one place
+-- ---- the tests of one place
 
 -- a place that is held is one of the eight
 pub held-there : (xs : List ℕ) (i : ℕ) → (get_or (places_in xs) i free_place).held ≡ true → i < 8
@@ -63,42 +60,6 @@ held-there xs i u =
     (λ q. ltb-true i 8 q)
     (λ q. clash (sym u ∙ ap (λ (p : Place). p.held) (at_none xs i (ltb-false i 8 q))))
 
-module _ (ps : List Place) (p : Place) where
-  -- a place that may be held with its length is plain where no other is of its source
-  length-sound : leb p.len 72 ≡ true → sound_beside ps p ≡ (leb p.source 4095 && not (has_place p.source ps))
-  length-sound l = rw (l, or_true p.swallowing)
-
-  pub plain-free : p.held ≡ false → true ≡ (not p.held || plain_beside ps p)
-  plain-free u = rw u
-
-  module _ (u : p.held ≡ true) where
-    pub plain-not : (leb p.len 72 && leb p.source 4095) ≡ false → false ≡ (not p.held || plain_beside ps p)
-    plain-not e =
-        by-test (leb p.len 72)
-        (λ l. let s : leb p.source 4095 ≡ false = rw l at e in rw (u, length-sound l, l, s))
-        (λ l. rw (u, l))
-
-    pub plain-alone : (leb p.len 72 && leb p.source 4095) ≡ true → not (has_place p.source ps) ≡ (not p.held || plain_beside ps p)
-    plain-alone e =
-        let l = and_left (leb p.len 72) (leb p.source 4095) e in
-        rw (u, length-sound l, l, and_right (leb p.len 72) (leb p.source 4095) e)
-
-  -- B7 asks less
-  pub plain-sound : (not p.held || plain_beside ps p) ≡ true → true ≡ (not p.held || sound_beside ps p)
-  plain-sound e = by-test p.held (λ u. rw (u, and_right (leb p.len 72) (sound_beside ps p) (rw u at e))) (λ u. rw u)
-
-  module _ (n : (not p.held || plain_beside ps p) ≡ false) where
-    pub held-not-plain : p.held ≡ true
-    held-not-plain = by-test p.held (λ u. u) (λ u. clash (rw u at n))
-
-    -- a place that holds a datagram is refused by B7
-    pub sound-not : p.swallowing ≡ false → false ≡ (not p.held || sound_beside ps p)
-    sound-not w =
-        let u = held-not-plain in
-        by-test (leb p.len 72) (λ l. rw (u, l) (sym (rw (u, l) at n))) (λ l. rw (u, w, l))
-
-    pub sound-large : p.swallowing ≡ true → leb p.source 4095 ≡ false → false ≡ (not p.held || sound_beside ps p)
-    sound-large w l = rw (held-not-plain, w, l)
-
-    pub sound-alone : p.swallowing ≡ true → leb p.source 4095 ≡ true → not (has_place p.source ps) ≡ (not p.held || sound_beside ps p)
-    sound-alone w l = rw (held-not-plain, w, l)
+-- B7 asks less than the stricter test
+pub plain-sound : (ps : List Place) (p : Place) → (not p.held || plain_beside ps p) ≡ true → true ≡ (not p.held || sound_beside ps p)
+plain-sound ps p e = by-test p.held (λ u. rw (u, and_right (leb p.len 72) (sound_beside ps p) (rw u at e))) (λ u. rw u)

@@ -13,7 +13,8 @@ use borrow.Author.Tests.{eqb-true, eq-eqb, ne_eqb, ltb-true, ltb-false}
 use Rattle.buffer.specs.Buffer.{put_at, placed}
 use Rattle.buffer.proofs.Choice.{clash, by-test, and-false, and_left, and_right}
 use Rattle.buffer.proofs.Laws.{placed-fits, put_first, take-before, drop-put}
-use Rattle.rx_place_spec.specs.Place.{Place, place, free_place}
+use Rattle.rx_place_spec.specs.declared.Place.{Place}
+use Rattle.rx_place_spec.specs.Place.{place, free_place}
 use Rattle.rx_place_spec.specs.PlaceBytes.{place_in, places_from, places_in, place_bytes, same, same_place, renewed}
 
 -- ---- the place at an index

@@ -2,16 +2,7 @@
 -- unfinished datagram it keeps, or of which it keeps only that it is being swallowed: "its place is kept, and that
 -- source's Middles are swallowed unanswered".
 use Rattle.std.specs.Prelude.{ℕ, Bool, true, false}
-
--- Whether it is held, how many bytes of the datagram are joined, the source, the driver's tick at that source's last
--- accepted frame, and whether the source is being swallowed: then the length means nothing. Where the place is free,
--- nothing else in it means anything.
-pub record Place : Type 0 where
-  pub held : Bool
-  pub len : ℕ
-  pub source : ℕ
-  pub tick : ℕ
-  pub swallowing : Bool
+use Rattle.rx_place_spec.specs.declared.Place.{Place}
 
 abbrev pub place : Bool → ℕ → ℕ → ℕ → Bool → Place
 place held len source tick swallowing = record { held = held; len = len; source = source; tick = tick; swallowing = swallowing }

@@ -7,7 +7,8 @@
 --   byte 7      no meaning yet: not read, and 0 where a place is changed
 use Rattle.std.specs.Prelude.{ℕ, zero, suc, ◌+◌, ◌*◌, ◌/◌, ◌%◌, Bool, cond, not, ◌&&◌, List, [], ◌∷◌, ◌++◌, eqb, take, drop, get_or, replicate}
 use Rattle.buffer.specs.Lent.{LentBytes, before, after}
-use Rattle.rx_place_spec.specs.Place.{Place, place}
+use Rattle.rx_place_spec.specs.declared.Place.{Place}
+use Rattle.rx_place_spec.specs.Place.{place}
 use Rattle.rx_place_spec.specs.State.{State, state}
 
 -- The place that the first eight of the bytes stand for. A byte that is not 0 is true.

@@ -1,6 +1,7 @@
 -- The reception state, of document 01, "Joining frames": places, and the bytes of unfinished datagrams.
 use Rattle.std.specs.Prelude.{ℕ, List, replicate}
-use Rattle.rx_place_spec.specs.Place.{Place, free_place}
+use Rattle.rx_place_spec.specs.declared.Place.{Place}
+use Rattle.rx_place_spec.specs.Place.{free_place}
 
 -- Eight places, and the pool that holds their bytes, 72 for each: "Up to eight sources may each have one unfinished
 -- datagram".

@@ -1,7 +1,8 @@
 -- C-14 of document 02: "the driver's tick, a free-running 16-bit count that goes from 65,535 to 0", and the unfinished
 -- datagrams that are dropped by it.
 use Rattle.std.specs.Prelude.{ℕ, ◌+◌, ◌-◌, ◌%◌, Bool, cond, ◌&&◌, List, map, ltb}
-use Rattle.rx_place_spec.specs.Place.{Place, free_place}
+use Rattle.rx_place_spec.specs.declared.Place.{Place}
+use Rattle.rx_place_spec.specs.Place.{free_place}
 
 -- The tick at a time: times "count on past 65,535".
 abbrev pub tick_at : ℕ → ℕ

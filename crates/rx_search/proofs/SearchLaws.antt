@@ -1,23 +1,23 @@
 -- Laws of the loops over the places: the first free one, and the place of a source with the test for B7 and what is due.
 -- Assumes nothing.
 use mathlib.Core.Path.{◌≡◌, refl, sym, ap, ◌∙◌}
-use mathlib.Core.Logic.{◌⊎◌, inl, inr}
 use mathlib.Core.Bool.{Bool, true, false, cond, not, ◌||◌}
 use mathlib.Core.List.{List, [], ◌∷◌, ◌++◌}
 use Prim.Native.Nat.{ℕ, zero, suc, ◌+◌, ◌≤◌, ◌<◌}
 use native.Mathlib.Numerals.{add-one}
 use native.Mathlib.Omega.{arith}
-use lib.Dec.{eqb}
+use Rattle.std.specs.Prelude.{Ok, Err}
 use lib.ListN.{length, take, drop, get_or, drop_of_length-le}
 use lib.Seq.{drop-cons, take-suc, take_all}
-use borrow.Author.Tests.{eqb-true, eqb-false}
 use Rattle.buffer.proofs.Choice.{clash}
-use Rattle.rx_place_spec.specs.Place.{Place, free_place}
+use Rattle.rx_place_spec.specs.declared.Place.{Place}
+use Rattle.rx_place_spec.specs.Place.{free_place}
 use Rattle.rx_place_spec.specs.Ticks.{is_due}
 use Rattle.rx_spec.specs.Reception.{is_for, place_of, free_in, has_place, sound_beside, sound}
-use Rattle.rx_spec.proofs.PlaceLaws.{is_for-held, is_for-source, is_for-self, is_for-free, is_for-else, none-head, none_tail, Fine, Good, beside_fine, fine-beside, good-sound, sound-good, place_out}
+use Rattle.rx_spec.proofs.PlaceLaws.{is_for-held, is_for-source, is_for-self, none-head, none_tail, Fine, Good, beside_fine, fine-beside, good-sound, sound-good, place_out}
 use Rattle.rx_place_check.proofs.BesideLaws.{or_false, has_snoc, has_next, none-at, plain-sound}
-use Rattle.rx_search.specs.Search.{passing, next_found, any_due, looked, looked_up}
+use Rattle.rx_place_check.specs.Plain.{passing}
+use Rattle.rx_search.specs.Search.{any_due, looked, unsound, looked_up}
 
 -- ---- the first free place
 
@@ -76,38 +76,10 @@ good-fine (q ∷ ps) (suc i) g h u =
 
 -- ---- a turn of the search
 
-module _ (plain : Bool) (s : ℕ) (ps : List Place) (p : Place) (i found : ℕ) where
-  pub next_bad : passing plain ps p ≡ false → next_found plain s ps p i found ≡ 9
-  unfolding next_found
-  next_bad b = rw b
-
-  module _ (b : passing plain ps p ≡ true) where
-    pub next_here : is_for s p ≡ true → next_found plain s ps p i found ≡ i
-    unfolding next_found
-    next_here e = rw (b, e)
-
-    pub next_else : is_for s p ≡ false → next_found plain s ps p i found ≡ found
-    unfolding next_found
-    next_else e = rw (b, e)
-
-  pub next_free : p.held ≡ false → next_found plain s ps p i found ≡ found
-  next_free u = next_else (rw u) (is_for-free s p u)
-
 -- what passes by either test passes by B7
-passing-sound : (plain : Bool) (ps : List Place) (p : Place) → passing plain ps p ≡ true → (not p.held || sound_beside ps p) ≡ true
+pub passing-sound : (plain : Bool) (ps : List Place) (p : Place) → passing plain ps p ≡ true → (not p.held || sound_beside ps p) ≡ true
 passing-sound false ps p e = e
 passing-sound true ps p e = sym (plain-sound ps p e)
-
--- by the stricter test the same is found, or 9
-pub plain-found : (plain : Bool) (s : ℕ) (ps : List Place) (p : Place) (i found x : ℕ) → x ≡ next_found plain s ps p i found →
-    ((x ≡ 9) × (plain ≡ true)) ⊎ (x ≡ next_found false s ps p i found)
-unfolding next_found
-plain-found false s ps p i found x q = inr q
-plain-found true s ps p i found x q = go (passing true ps p) refl
-  where
-    go : (b : Bool) → passing true ps p ≡ b → ((x ≡ 9) × (true ≡ true)) ⊎ (x ≡ next_found false s ps p i found)
-    go true e = inr (q ∙ rw (e, passing-sound true ps p e))
-    go false e = inl (q ∙ rw e, refl)
 
 -- what is found of s among the first i places
 abbrev seen : ℕ → List Place → ℕ → ℕ
@@ -139,37 +111,25 @@ module _ (s : ℕ) (ps : List Place) (i : ℕ) (l : length ps ≡ 8) (h : i < 8)
       go true q = clash (sym (fine-beside (take i ps) p (good-fine ps i (sound-good ps q) (omega arith) u)) ∙ e)
       go false q = q
 
-  -- after place i B7 refuses the places, or one place more has passed
-  module _ (found x : ℕ) (inv : Passed s ps i found) (q : x ≡ next_found false s (take i ps) p i found) where
-    abbrev Turn : Type 0
-    Turn = ((x ≡ 9) × (sound ps ≡ false)) ⊎ Passed s ps (i + 1) x
+  -- place i passes too, and the place of s is found where it is that
+  module _ (found x : ℕ) (inv : Passed s ps i found) (b : passing false (take i ps) p ≡ true) (q : x ≡ cond (is_for s p) i found) where
+    fine : p.held ≡ true → Fine p (take i ps)
+    fine u = beside_fine (take i ps) p (rw u at b)
 
-    passes : x ≤ 8 → (p.held ≡ true → Fine p (take i ps)) → x ≡ seen s ps (i + 1) → Turn
-    passes m f e = inr (omega arith, m, good-next ps i (omega arith) inv.2 f, e)
+    passes : x ≤ 8 → x ≡ seen s ps (i + 1) → Passed s ps (i + 1) x
+    passes m e = (omega arith, m, good-next ps i (omega arith) inv.2 fine, e)
 
-    goes_on : x ≡ found → is_for s p ≡ false → (p.held ≡ true → Fine p (take i ps)) → Turn
-    goes_on y n f = passes (omega (arith, inv.1)) f (y ∙ inv.3 ∙ sym (seen_else n))
-
-    sounded : p.held ≡ true → sound_beside (take i ps) p ≡ true → (b : Bool) → eqb p.source s ≡ b → Turn
-    sounded u b true w =
-        let f = beside_fine (take i ps) p b in
-        let v = eqb-true p.source s w in
-        let y : x ≡ i = q ∙ next_here false s (take i ps) p i found (rw (u, b)) (is_for-self s p u v) in
-        passes (omega arith) (λ o. f) (y ∙ sym (seen_here (rw v at f.alone) (is_for-self s p u v)))
-    sounded u b false w =
-        let v = eqb-false p.source s w in
-        goes_on (q ∙ next_else false s (take i ps) p i found (rw (u, b)) (is_for-else s p v)) (is_for-else s p v) (λ o. beside_fine (take i ps) p b)
-
-    tested : p.held ≡ true → (b : Bool) → sound_beside (take i ps) p ≡ b → Turn
-    tested u true b = sounded u b (eqb p.source s) refl
-    tested u false b = inl (q ∙ next_bad false s (take i ps) p i found (rw (u, b)), not_sound u b)
-
-    pub turn : Turn
-    turn = go p.held refl
+    pub turn : Passed s ps (i + 1) x
+    turn = go (is_for s p) refl
       where
-        go : (b : Bool) → p.held ≡ b → Turn
-        go true u = tested u (sound_beside (take i ps) p) refl
-        go false u = goes_on (q ∙ next_free false s (take i ps) p i found u) (is_for-free s p u) (λ o. clash (sym o ∙ u))
+        go : (z : Bool) → is_for s p ≡ z → Passed s ps (i + 1) x
+        go true e =
+            let f = fine (is_for-held s p e) in
+            let y : x ≡ i = q ∙ rw e in
+            passes (omega arith) (y ∙ sym (seen_here (rw (is_for-source s p e) at f.alone) e))
+        go false e =
+            let y : x ≡ found = q ∙ rw e in
+            passes (omega (arith, inv.1)) (y ∙ inv.3 ∙ sym (seen_else e))
 
 -- ---- B7 by itself
 
@@ -208,18 +168,18 @@ due_none now (p ∷ ps) free = rw (free 0, due_none now ps (λ i. free (suc i)))
 
 -- ---- the end of the search
 
-pub looked-bad : (s now : ℕ) (ps : List Place) → sound ps ≡ false → looked 9 false ≡ looked_up s now ps
+pub looked-bad : (s now : ℕ) (ps : List Place) → sound ps ≡ false → Err unsound ≡ looked_up s now ps
 unfolding looked_up
 looked-bad s now ps e = rw e
 
 pub looked-done : (s now : ℕ) (ps : List Place) (i found : ℕ) (due : Bool) → length ps ≡ 8 → 8 ≤ i → Passed s ps i found → due ≡ any_due now (take i ps) →
-    looked found due ≡ looked_up s now ps
+    Ok (looked found due) ≡ looked_up s now ps
 unfolding looked_up
 looked-done s now ps i found due l h inv d =
     let t = take_all i ps (omega arith) in
     let y : found ≡ cond (has_place s ps) (place_of s ps) 8 = rw t at inv.3 in
     let z : due ≡ any_due now ps = rw t at d in
-    rw (good-sound ps (rw t at inv.2), z) (ap (λ (n : ℕ). looked n (any_due now ps)) (y ∙ go (has_place s ps) refl))
+    rw (good-sound ps (rw t at inv.2), z) (ap (λ (n : ℕ). Ok (looked n (any_due now ps))) (y ∙ go (has_place s ps) refl))
   where
     go : (b : Bool) → has_place s ps ≡ b → cond (has_place s ps) (place_of s ps) 8 ≡ place_of s ps
     go true q = rw q

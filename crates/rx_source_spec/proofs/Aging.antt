@@ -11,7 +11,7 @@ use borrow.Author.Tests.{eqb-true, eq-eqb}
 use Rattle.buffer.specs.Buffer.{Each}
 use Rattle.buffer.proofs.Choice.{by-test}
 use Rattle.can_frame.specs.Frame.{CanFrame, source_of}
-use Rattle.rx_place_spec.specs.Place.{Place}
+use Rattle.rx_place_spec.specs.declared.Place.{Place}
 use Rattle.rx_place_spec.specs.Ticks.{tick_at, age}
 use Rattle.rx_spec.specs.Times.{Input, frame_input, lone_tick, Timed, Follows, TimelyAfter, Timely, moment, InTimeAfter, InTime, is_accepted}
 use Rattle.rx_place_spec.specs.State.{State}

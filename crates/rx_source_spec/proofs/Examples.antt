@@ -10,10 +10,11 @@ use native.Mathlib.Omega.{arith}
 use lib.ListN.{replicate}
 use Rattle.buffer.proofs.Choice.{clash}
 use Rattle.buffer.specs.Buffer.{put_at, Each}
+use Rattle.can_frame.specs.declared.TransportRefusal.TheVariants.{OutOfOrder, BufferUnavailable}
 use Rattle.can_frame.specs.Frame.{kind_of_frame, addressed, role_of}
-use Rattle.rx_place_spec.specs.Place.{Place, held_for}
+use Rattle.rx_place_spec.specs.declared.Place.{Place}
+use Rattle.rx_place_spec.specs.Place.{held_for}
 use Rattle.rx_place_spec.specs.Ticks.{tick_at, age, is_due, drop_due}
-use Rattle.rx_spec.specs.Books.{buffer_unavailable}
 use Rattle.rx_spec.specs.Times.{frame_input, lone_tick, Timed, timed, InTime}
 use Rattle.rx_place_spec.specs.State.{State, state}
 use Rattle.rx_spec.specs.Reception.{at_tick, is_for, kept_in, join_sound, receive}
@@ -99,11 +100,11 @@ never_turned_away : Admitted (λ (c : Timed). c) join_one 5 junk [] to_the_refus
 unfolding before-refusal refused_first junk first-of_5 put_at is_due drop_due is_for kept_in join_sound receive handle_frame handle_tick kind_of_frame addressed role_of
 never_turned_away = (λ e. clash (sym e), (λ e. differ, (λ e. other, tt)))
   where
-    differ : (let a : CallAnswer (Unit {0}) (List ℕ) = nothing in let b : CallAnswer (Unit {0}) (List ℕ) = transport_refusal buffer_unavailable in a ≢ b)
-    differ q = absurd (let z : ◌≡◌ {A = ℕ} 0 1 = cc in omega arith)
+    differ : (let a : CallAnswer (Unit {0}) (List ℕ) = nothing in let b : CallAnswer (Unit {0}) (List ℕ) = transport_refusal BufferUnavailable in a ≢ b)
+    differ q = cc
 
-    other : (let a : CallAnswer (Unit {0}) (List ℕ) = transport_refusal 0x2040 in let b : CallAnswer (Unit {0}) (List ℕ) = transport_refusal buffer_unavailable in a ≢ b)
-    other q = let n : ◌≡◌ {A = ℕ} 0x2040 0x2020 = cc in omega arith
+    other : (let a : CallAnswer (Unit {0}) (List ℕ) = transport_refusal OutOfOrder in let b : CallAnswer (Unit {0}) (List ℕ) = transport_refusal BufferUnavailable in a ≢ b)
+    other q = cc
 
 source-at_the_edge :
     let before = run_calls join_one junk [] to_the_refusal in

@@ -13,7 +13,7 @@ use borrow.Author.Tests.{ltb-false, lt-ltb}
 use Rattle.buffer.specs.Buffer.{Each}
 use Rattle.buffer.proofs.Choice.{clash, by-test}
 use Rattle.can_frame.specs.Frame.{source_of}
-use Rattle.rx_place_spec.specs.Place.{Place}
+use Rattle.rx_place_spec.specs.declared.Place.{Place}
 use Rattle.rx_place_spec.specs.Ticks.{tick_at, age, is_due, drop_due}
 use Rattle.rx_spec.specs.Books.{is_unfinished}
 use Rattle.rx_spec.specs.Times.{Input, frame_input, lone_tick, Timed, Follows, moment, MayFollow, InTimeAfter, InTime, is_accepted}

@@ -9,6 +9,7 @@ use native.Mathlib.Omega.{arith}
 use lib.ListN.{replicate}
 use Rattle.buffer.specs.Buffer.{put_at}
 use Rattle.buffer.proofs.Choice.{clash}
+use Rattle.can_frame.specs.declared.TransportRefusal.TheVariants.{BufferUnavailable}
 use Rattle.can_frame.specs.Frame.{can_frame, kind_of_frame, addressed, role_of}
 use Rattle.rx_place_spec.specs.Ticks.{is_due, drop_due}
 use Rattle.rx_spec.specs.Times.{Timed, timed, frame_input, Follows, Timely, book_of}
@@ -43,7 +44,7 @@ unfinished-nine = refl
 
 -- the ninth is refused, and the fifth's datagram is finished
 answered : (run_calls join start [] (nine ++ ended ∷ [])).answers
-    ≡ nothing ∷ nothing ∷ nothing ∷ nothing ∷ nothing ∷ nothing ∷ nothing ∷ nothing ∷ transport_refusal 0x2020 ∷ handled (7 ∷ 8 ∷ []) ∷ []
+    ≡ nothing ∷ nothing ∷ nothing ∷ nothing ∷ nothing ∷ nothing ∷ nothing ∷ nothing ∷ transport_refusal BufferUnavailable ∷ handled (7 ∷ 8 ∷ []) ∷ []
 unfolding start nine begun ended put_at is_due drop_due is_for kept_in join_sound receive handle_frame handle_tick kind_of_frame addressed role_of
 answered = refl
 
@@ -75,7 +76,7 @@ admitted = (
       (
         λ e. clash (sym e),
         (
-          λ e q. let n : ◌≡◌ {A = ℕ} 0 1 = cc in omega arith,
+          λ e q. cc,
           (λ e. clash (sym e), (λ e. clash (sym e), (λ e. clash (sym e), (λ e. clash (sym e), tt)))),
         ),
       ),
@@ -83,8 +84,8 @@ admitted = (
   ),
 )
 
-apart : ◌≡◌ {A = CallAnswer (Unit {0}) (List ℕ)} (handled (7 ∷ 8 ∷ [])) (transport_refusal 0x2020) → ⊥
-apart q = let n : ◌≡◌ {A = ℕ} 0 1 = cc in omega arith
+apart : ◌≡◌ {A = CallAnswer (Unit {0}) (List ℕ)} (handled (7 ∷ 8 ∷ [])) (transport_refusal BufferUnavailable) → ⊥
+apart q = cc
 
 -- so it is answered by its book, since it is not turned away
 fifth : ByItsBook keep 0x123 5 nine ended [] (join (run_calls join start [] nine).state [] ended)

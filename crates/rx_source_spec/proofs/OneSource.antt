@@ -13,10 +13,13 @@ use borrow.Author.Tests.{eqb-true, eqb-false, ne_eqb, ltb-false}
 use Rattle.buffer.proofs.Choice.{clash, by-test}
 use Rattle.can_frame.specs.declared.Role.{Role}
 use Rattle.can_frame.specs.declared.Role.TheVariants.{Ignored, Single, First, Middle, Last}
+use Rattle.can_frame.specs.declared.TransportRefusal.{TransportRefusal}
+use Rattle.can_frame.specs.declared.TransportRefusal.TheVariants.{OutOfOrder, TemporaryError, BufferUnavailable}
 use Rattle.can_frame.specs.Frame.{CanFrame, source_of, role_of}
-use Rattle.rx_place_spec.specs.Place.{Place, free_place}
+use Rattle.rx_place_spec.specs.declared.Place.{Place}
+use Rattle.rx_place_spec.specs.Place.{free_place}
 use Rattle.rx_place_spec.specs.Ticks.{tick_at, drop_due}
-use Rattle.rx_spec.specs.Books.{Book, blank, holds, swallowing, is_unfinished, Event, ignored, no_answer, refuse, finish, out_of_order, temporary_error, buffer_unavailable, Entry, entry, fits, book_rule, enter_frame}
+use Rattle.rx_spec.specs.Books.{Book, blank, holds, swallowing, is_unfinished, Event, ignored, no_answer, refuse, finish, Entry, entry, fits, book_rule, enter_frame}
 use Rattle.rx_spec.specs.Times.{Input, frame_input, lone_tick, Timed, Follows, TimelyAfter, Timely, DatedBook, is_accepted, hear_time, hear_input, book_of, input_event}
 use Rattle.rx_place_spec.specs.State.{State}
 use Rattle.rx_spec.specs.Reception.{is_for, unfinished_for, has_place, full, sound, at_tick, Joined, join_sound}
@@ -79,40 +82,39 @@ module _ (s x last after t : ℕ) (accepted : Bool) (own : x ≡ s → accepted 
 -- ---- 0x2020
 
 -- why a frame is refused with 0x2020
-refused_first : (f : Bool) (v : Role) (d : List ℕ) (b : Book) → (entry_of f v d b).event ≡ refuse buffer_unavailable → (v ≡ First) × (b ≡ blank) × (f ≡ true)
+refused_first : (f : Bool) (v : Role) (d : List ℕ) (b : Book) → (entry_of f v d b).event ≡ refuse BufferUnavailable → (v ≡ First) × (b ≡ blank) × (f ≡ true)
 refused_first true First d blank e = (refl, refl, refl)
-refused_first false First d blank e = absurd (let n : ◌≡◌ {A = ℕ} 0 1 = cc in omega arith)
-refused_first f First d (holds b) e = let n : ◌≡◌ {A = ℕ} 0x2040 0x2020 = cc in absurd (omega arith)
-refused_first f First d swallowing e = absurd (let n : ◌≡◌ {A = ℕ} 0 1 = cc in omega arith)
-refused_first f Ignored d b e = absurd (let n : ◌≡◌ {A = ℕ} 0 1 = cc in omega arith)
-refused_first f Single d blank e = absurd (let n : ◌≡◌ {A = ℕ} 0 1 = cc in omega arith)
-refused_first f Single d (holds b) e = let n : ◌≡◌ {A = ℕ} 0x2040 0x2020 = cc in absurd (omega arith)
-refused_first f Single d swallowing e = absurd (let n : ◌≡◌ {A = ℕ} 0 1 = cc in omega arith)
-refused_first f Middle d blank e = let n : ◌≡◌ {A = ℕ} 0x2040 0x2020 = cc in absurd (omega arith)
+refused_first false First d blank e = absurd (cc)
+refused_first f First d (holds b) e = absurd (cc)
+refused_first f First d swallowing e = absurd (cc)
+refused_first f Ignored d b e = absurd (cc)
+refused_first f Single d blank e = absurd (cc)
+refused_first f Single d (holds b) e = absurd (cc)
+refused_first f Single d swallowing e = absurd (cc)
+refused_first f Middle d blank e = absurd (cc)
 refused_first f Middle d (holds b) e = absurd (go (eqb (length d) 0) (fits b d) e)
   where
-    go : (z y : Bool) → (cond z (entry swallowing (refuse out_of_order)) (cond y (entry (holds (b ++ d)) no_answer) (entry swallowing (refuse temporary_error)))).event ≡ refuse buffer_unavailable → ⊥
-    go true y e = let n : ◌≡◌ {A = ℕ} 0x2040 0x2020 = cc in absurd (omega arith)
-    go false true e = absurd (let n : ◌≡◌ {A = ℕ} 0 1 = cc in omega arith)
-    go false false e = let n : ◌≡◌ {A = ℕ} 0x2000 0x2020 = cc in absurd (omega arith)
-refused_first f Middle d swallowing e = absurd (let n : ◌≡◌ {A = ℕ} 0 1 = cc in omega arith)
-refused_first f Last d blank e = let n : ◌≡◌ {A = ℕ} 0x2040 0x2020 = cc in absurd (omega arith)
+    go : (z y : Bool) → (cond z (entry swallowing (refuse OutOfOrder)) (cond y (entry (holds (b ++ d)) no_answer) (entry swallowing (refuse TemporaryError)))).event ≡ refuse BufferUnavailable → ⊥
+    go true y e = absurd (cc)
+    go false true e = absurd (cc)
+    go false false e = absurd (cc)
+refused_first f Middle d swallowing e = absurd (cc)
+refused_first f Last d blank e = absurd (cc)
 refused_first f Last d (holds b) e = absurd (go (fits b d) e)
   where
-    go : (y : Bool) → (cond y (entry blank (finish (b ++ d))) (entry blank (refuse temporary_error))).event ≡ refuse buffer_unavailable → ⊥
-    go true e = absurd (let n : ◌≡◌ {A = ℕ} 0 1 = cc in omega arith)
-    go false e = let n : ◌≡◌ {A = ℕ} 0x2000 0x2020 = cc in absurd (omega arith)
-refused_first f Last d swallowing e = absurd (let n : ◌≡◌ {A = ℕ} 0 1 = cc in omega arith)
+    go : (y : Bool) → (cond y (entry blank (finish (b ++ d))) (entry blank (refuse TemporaryError))).event ≡ refuse BufferUnavailable → ⊥
+    go true e = absurd (cc)
+    go false e = absurd (cc)
+refused_first f Last d swallowing e = absurd (cc)
 
 -- whether it is
-is-it : (e : Event) → (e ≡ refuse buffer_unavailable) ⊎ (e ≢ refuse buffer_unavailable)
-is-it ignored = inr (λ q. let n : ◌≡◌ {A = ℕ} 0 1 = cc in omega arith)
-is-it no_answer = inr (λ q. let n : ◌≡◌ {A = ℕ} 0 1 = cc in omega arith)
-is-it (refuse code) =
-    by-test (eqb code buffer_unavailable)
-    (λ e. inl (ap refuse (eqb-true code buffer_unavailable e)))
-    (λ e. inr (λ q. eqb-false code buffer_unavailable e (cc)))
-is-it (finish d) = inr (λ q. let n : ◌≡◌ {A = ℕ} 0 1 = cc in omega arith)
+is-it : (e : Event) → (e ≡ refuse BufferUnavailable) ⊎ (e ≢ refuse BufferUnavailable)
+is-it ignored = inr (λ q. cc)
+is-it no_answer = inr (λ q. cc)
+is-it (refuse BufferUnavailable) = inl refl
+is-it (refuse OutOfOrder) = inr (λ q. cc)
+is-it (refuse TemporaryError) = inr (λ q. cc)
+is-it (finish d) = inr (λ q. cc)
 
 -- ---- one call
 
@@ -162,11 +164,11 @@ module _ (alias s : ℕ) (st : State) (now t : ℕ) (b : DatedBook) (inv : Agree
         })
 
     -- of s, where it is not refused with 0x2020
-    module _ (e : eqb x s ≡ true) (admitted : j.event ≢ refuse buffer_unavailable) where
+    module _ (e : eqb x s ≡ true) (admitted : j.event ≢ refuse BufferUnavailable) where
       abbrev entered : Entry
       entered = enter_frame alias f (hear_time t b).book
 
-      room : (v : Role) (c : Book) → (entry_of (full mid.places) v f.payload c).event ≢ refuse buffer_unavailable → v ≡ First → c ≡ blank → full mid.places ≡ false
+      room : (v : Role) (c : Book) → (entry_of (full mid.places) v f.payload c).event ≢ refuse BufferUnavailable → v ≡ First → c ≡ blank → full mid.places ≡ false
       room v c a p q = by-test (full mid.places) (λ h. absurd (a (rw (p, q, h)))) (λ h. h)
 
       by-book : Step (tick_at t) mid x j entered
@@ -189,7 +191,7 @@ module _ (alias s : ℕ) (st : State) (now t : ℕ) (b : DatedBook) (inv : Agree
           })
 
     -- of s, where it is
-    module _ (e : eqb x s ≡ true) (refused : j.event ≡ refuse buffer_unavailable) where
+    module _ (e : eqb x s ≡ true) (refused : j.event ≡ refuse BufferUnavailable) where
       own-none : unfinished_for mid x ≡ (hear_time t b).book
       own-none = ap (unfinished_for mid) (eqb-true x s e) ∙ at_time.same
 
@@ -216,7 +218,7 @@ module _ (alias s : ℕ) (past : List Timed) (st : State) (now t : ℕ) (inv : A
   moved : (i : Input) (left : State) → Agrees s left t (hear_input alias s t i (hear_time t (book_of alias past s))) → Agrees s left t (book_of alias (past ++ record { time = t; input = i } ∷ []) s)
   moved i left a = subst (λ (y : DatedBook). Agrees s left t y) (sym (book-next alias past (record { time = t; input = i }) s)) a
 
-  next : (i : Input) → (is_from s i ≡ true → (taken alias (tick_at t) st i).event ≢ refuse buffer_unavailable) →
+  next : (i : Input) → (is_from s i ≡ true → (taken alias (tick_at t) st i).event ≢ refuse BufferUnavailable) →
       Next alias s past (record { time = t; input = i }) (taken alias (tick_at t) st i)
   next (frame_input f) a =
       by-test (eqb (source_of f.header) s)
@@ -238,7 +240,7 @@ module _ (alias s : ℕ) (past : List Timed) (st : State) (now t : ℕ) (inv : A
     every_held : full left.places ≡ true
     start : FreshFor s left
 
-  turned : (i : Input) → is_from s i ≡ true → (taken alias (tick_at t) st i).event ≡ refuse buffer_unavailable →
+  turned : (i : Input) → is_from s i ≡ true → (taken alias (tick_at t) st i).event ≡ refuse BufferUnavailable →
       Away (taken alias (tick_at t) st i).state (book_of alias (past ++ record { time = t; input = i } ∷ []) s)
   turned (frame_input f) e q =
       let y = why alias s st now t (book_of alias past s) inv follows ok f e q in
@@ -280,11 +282,11 @@ module _ {C H W A : Type 0} (heard : C → Timed) (handle : W → List ℕ → A
     left : (one st w c).state ≡ came.state
     left = ap (λ (r : FrameResult H W A). r.state) given ∙ answered-state H handle came.state w came.event
 
-    refused_is : came.event ≡ refuse buffer_unavailable → (one st w c).answer ≡ transport_refusal buffer_unavailable
+    refused_is : came.event ≡ refuse BufferUnavailable → (one st w c).answer ≡ transport_refusal BufferUnavailable
     refused_is q = ap (λ (r : FrameResult H W A). r.answer) (given ∙ ap (answer_event handle came.state w) q)
 
     -- it does not refuse s with 0x2020
-    module _ (a : is_from s (heard c).input ≡ true → came.event ≢ refuse buffer_unavailable) where
+    module _ (a : is_from s (heard c).input ≡ true → came.event ≢ refuse BufferUnavailable) where
       went : Next alias s past (heard c) came
       went = next alias s past st now at inv follows ok (heard c).input a
 
@@ -300,14 +302,14 @@ module _ {C H W A : Type 0} (heard : C → Timed) (handle : W → List ℕ → A
           }
 
     -- it does
-    away : is_from s (heard c).input ≡ true → came.event ≡ refuse buffer_unavailable → TurnedAway handle alias s past (heard c) w (one st w c)
+    away : is_from s (heard c).input ≡ true → came.event ≡ refuse BufferUnavailable → TurnedAway handle alias s past (heard c) w (one st w c)
     away e q =
         let x = turned alias s past st now at inv follows ok (heard c).input e q in
         record {
           blank-before = x.none;
           unfinished-now = x.opens;
           answer = given ∙ ap (answer_event handle came.state w) q
-              ∙ ap (λ (y : State). answer_event handle y w (refuse buffer_unavailable)) (sym left);
+              ∙ ap (λ (y : State). answer_event handle y w (refuse BufferUnavailable)) (sym left);
           eight-others = rw left x.every_held;
           nothing-opened = rw left x.start;
         }
@@ -315,7 +317,7 @@ module _ {C H W A : Type 0} (heard : C → Timed) (handle : W → List ℕ → A
     call : ByItsBook handle alias s past (heard c) w (one st w c) ⊎ TurnedAway handle alias s past (heard c) w (one st w c)
     call = by-test (is_from s (heard c).input) (λ e. go e (is-it came.event)) (λ e. inl (by-book-of (λ q. clash (sym q ∙ e))))
       where
-        go : is_from s (heard c).input ≡ true → (came.event ≡ refuse buffer_unavailable) ⊎ (came.event ≢ refuse buffer_unavailable) →
+        go : is_from s (heard c).input ≡ true → (came.event ≡ refuse BufferUnavailable) ⊎ (came.event ≢ refuse BufferUnavailable) →
             ByItsBook handle alias s past (heard c) w (one st w c) ⊎ TurnedAway handle alias s past (heard c) w (one st w c)
         go e (inl q) = inr (away e q)
         go e (inr n) = inl (by-book-of (λ q. n))
@@ -359,17 +361,17 @@ join-one-source alias = one-source (λ (c : Timed). c) keep alias (join_at alias
 -- ---- one rejection
 
 -- a frame other than a Last that is refused to a book that holds a datagram leaves it swallowing
-begins : (v : Role) (d b : List ℕ) (code : ℕ) → v ≢ Last → (book_rule v d (holds b)).event ≡ refuse code → (book_rule v d (holds b)).book ≡ swallowing
-begins Ignored d b code l e = absurd (let n : ◌≡◌ {A = ℕ} 0 1 = cc in omega arith)
-begins Single d b code l e = refl
-begins First d b code l e = refl
-begins Middle d b code l e = go (eqb (length d) 0) refl (fits b d) refl
+begins : (v : Role) (d b : List ℕ) (refusal : TransportRefusal) → v ≢ Last → (book_rule v d (holds b)).event ≡ refuse refusal → (book_rule v d (holds b)).book ≡ swallowing
+begins Ignored d b refusal l e = absurd (cc)
+begins Single d b refusal l e = refl
+begins First d b refusal l e = refl
+begins Middle d b refusal l e = go (eqb (length d) 0) refl (fits b d) refl
   where
     go : (z : Bool) → eqb (length d) 0 ≡ z → (y : Bool) → fits b d ≡ y → (book_rule Middle d (holds b)).book ≡ swallowing
     go true q y p = rw q
-    go false q true p = let x : no_answer ≡ refuse code = rw (q, p) at e in absurd (let n : ◌≡◌ {A = ℕ} 0 1 = cc in omega arith)
+    go false q true p = let x : no_answer ≡ refuse refusal = rw (q, p) at e in absurd (cc)
     go false q false p = rw (q, p)
-begins Last d b code l e = absurd (l refl)
+begins Last d b refusal l e = absurd (l refl)
 
 pub one-rejection : OneRejection
 one-rejection = record { begins = begins; middle = λ d. refl; last = λ d. refl; single = λ d. refl; first = λ d. refl }

@@ -4,7 +4,7 @@
 use Rattle.std.specs.Prelude.{ℕ, ◌+◌, ◌<◌, ◌≡◌, Bool, true, false, cond, ◌&&◌, List, [], ◌∷◌, eqb, length}
 use Rattle.buffer.specs.Buffer.{Each}
 use Rattle.can_frame.specs.Frame.{source_of}
-use Rattle.rx_place_spec.specs.Place.{Place}
+use Rattle.rx_place_spec.specs.declared.Place.{Place}
 use Rattle.rx_place_spec.specs.Ticks.{tick_at, age}
 use Rattle.rx_spec.specs.Books.{is_unfinished}
 use Rattle.rx_spec.specs.Times.{Input, frame_input, lone_tick, Timed, Moment, moment, InTime}

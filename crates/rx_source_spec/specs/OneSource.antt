@@ -5,8 +5,10 @@
 use Rattle.std.specs.Prelude.{ℕ, ◌≡◌, ◌≢◌, ◌⊎◌, Bool, true, false, List, [], ◌∷◌, ◌++◌, map, eqb, length}
 use Rattle.can_frame.specs.declared.Role.{Role}
 use Rattle.can_frame.specs.declared.Role.TheVariants.{Single, First, Middle, Last}
+use Rattle.can_frame.specs.declared.TransportRefusal.{TransportRefusal}
+use Rattle.can_frame.specs.declared.TransportRefusal.TheVariants.{BufferUnavailable}
 use Rattle.can_frame.specs.Frame.{source_of}
-use Rattle.rx_spec.specs.Books.{blank, holds, swallowing, is_unfinished, no_answer, refuse, buffer_unavailable, entry, book_rule}
+use Rattle.rx_spec.specs.Books.{blank, holds, swallowing, is_unfinished, no_answer, refuse, entry, book_rule}
 use Rattle.rx_spec.specs.Times.{Input, frame_input, lone_tick, Timed, Timely, hear_time, book_of, input_event}
 use Rattle.rx_place_spec.specs.State.{State}
 use Rattle.rx_spec.specs.Reception.{unfinished_for, full}
@@ -33,7 +35,7 @@ abbrev pub Admitted :
 Admitted heard one s st w [] = Unit {0}
 Admitted heard one s st w (c ∷ cs) =
     let r = one st w c in
-    (is_from s (heard c).input ≡ true → r.answer ≢ transport_refusal buffer_unavailable)
+    (is_from s (heard c).input ≡ true → r.answer ≢ transport_refusal BufferUnavailable)
     × Admitted heard one s r.state r.world cs
 
 -- ---- the statement
@@ -54,7 +56,7 @@ pub record TurnedAway {H W A : Type 0} (handle : W → List ℕ → A × W) (ali
     (c : Timed) (w : W) (r : FrameResult H W A) : Type 0 where
   pub blank-before : (hear_time c.time (book_of alias past s)).book ≡ blank
   pub unfinished-now : is_unfinished (book_of alias (past ++ c ∷ []) s).book ≡ true
-  pub answer : r ≡ answer_event handle r.state w (refuse buffer_unavailable)
+  pub answer : r ≡ answer_event handle r.state w (refuse BufferUnavailable)
   pub eight-others : full r.state.places ≡ true
   pub nothing-opened : FreshFor s r.state
 
@@ -81,8 +83,8 @@ JoinOneSource = (alias : ℕ) → OneSource (λ (c : Timed). c) keep alias (join
 -- its next Last, which is swallowed", and "A Single or First .. counts as if nothing were unfinished." With the
 -- statement above this is what the tool hears.
 pub record OneRejection : Type 0 where
-  pub begins : (role : Role) (d b : List ℕ) (code : ℕ) → role ≢ Last
-      → (book_rule role d (holds b)).event ≡ refuse code → (book_rule role d (holds b)).book ≡ swallowing
+  pub begins : (role : Role) (d b : List ℕ) (refusal : TransportRefusal) → role ≢ Last
+      → (book_rule role d (holds b)).event ≡ refuse refusal → (book_rule role d (holds b)).book ≡ swallowing
   pub middle : (d : List ℕ) → book_rule Middle d swallowing ≡ entry swallowing no_answer
   pub last : (d : List ℕ) → book_rule Last d swallowing ≡ entry blank no_answer
   pub single : (d : List ℕ) → book_rule Single d swallowing ≡ book_rule Single d blank

@@ -11,7 +11,7 @@ use lib.Dec.{eqb}
 use lib.ListN.{length}
 use borrow.Author.Tests.{eqb-true, eqb-false, eq-eqb, ne_eqb}
 use Rattle.buffer.proofs.Choice.{clash, and_left, and_right}
-use Rattle.rx_place_spec.specs.Place.{Place}
+use Rattle.rx_place_spec.specs.declared.Place.{Place}
 use Rattle.rx_spec.specs.Books.{Book, blank, is_unfinished}
 use Rattle.rx_spec.specs.Reception.{unfinished_in, has_place, full}
 use Rattle.rx_spec.specs.Order.{unfinished_below}

@@ -8,7 +8,8 @@ use mathlib.Core.List.{List, [], ◌∷◌}
 use native.Mathlib.Omega.{arith}
 use lib.ListN.{drop}
 use Rattle.buffer.proofs.Choice.{clash}
-use Rattle.rx_place_spec.specs.Place.{Place, free_place}
+use Rattle.rx_place_spec.specs.declared.Place.{Place}
+use Rattle.rx_place_spec.specs.Place.{free_place}
 use Rattle.rx_place_spec.specs.Ticks.{is_due, drop_due}
 use Rattle.rx_place_spec.specs.PlaceBytes.{place_in, places_from, places_in, same_place, renewed}
 use Rattle.rx_place_spec.proofs.ByteLaws.{same_refl, NotBack, Covers, renewed-twice, covers_where, differ-held, differ-tick}

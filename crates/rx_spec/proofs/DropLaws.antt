@@ -12,7 +12,8 @@ use lib.ListN.{length, drop}
 use borrow.Author.Tests.{ltb-true, ltb-false, lt-ltb, le-ltb}
 use Rattle.buffer.specs.Buffer.{Each}
 use Rattle.buffer.proofs.Choice.{clash, and-false, and_left, and_right, by-test}
-use Rattle.rx_place_spec.specs.Place.{Place, free_place}
+use Rattle.rx_place_spec.specs.declared.Place.{Place}
+use Rattle.rx_place_spec.specs.Place.{free_place}
 use Rattle.rx_place_spec.specs.Ticks.{tick_at, age, is_due, after_tick, drop_due}
 use Rattle.rx_spec.specs.Books.{Book, blank, is_unfinished}
 use Rattle.rx_spec.specs.Times.{Near, Follows, moment, MayFollow}

@@ -12,6 +12,7 @@ use lib.ListN.{take, replicate}
 use borrow.Author.Tests.{ltb-true, ltb-false, lt-ltb, ne_eqb}
 use Rattle.buffer.proofs.Choice.{clash, by-test, cond-true, cond-elim}
 use Rattle.buffer.specs.Buffer.{put_at, Each}
+use Rattle.can_frame.specs.declared.TransportRefusal.TheVariants.{OutOfOrder}
 use Rattle.can_frame.specs.Frame.{CanFrame, can_frame, kind_of_frame, addressed, source_of, role_of}
 use Rattle.rx_place_spec.specs.Place.{place, held_for, swallowing_for, free_place}
 use Rattle.rx_place_spec.specs.Ticks.{is_due, drop_due}
@@ -36,7 +37,7 @@ elsewhere : CanFrame
 elsewhere = can_frame 0x1C124005 (7 ∷ [])
 
 -- the drop comes before the frame: a Middle 3,001 ticks later finds none unfinished
-late_middle : receive 0x123 3001 begun middle ≡ joined (state (replicate 8 free_place) []) (refuse 0x2040)
+late_middle : receive 0x123 3001 begun middle ≡ joined (state (replicate 8 free_place) []) (refuse OutOfOrder)
 unfolding begun middle is_due drop_due is_for join_sound receive kind_of_frame addressed role_of
 late_middle = refl
 
@@ -100,25 +101,25 @@ single = can_frame 0x1A123005 (32 ∷ [])
 
 -- the Last of what was begun is lost: the next First is refused, and the rest of its datagram is swallowed; the next datagram is joined
 lost_last : receive_all 0x123 begun (0 ∷ 0 ∷ 0 ∷ 0 ∷ 0 ∷ 0 ∷ []) (first ∷ middle ∷ empty-middle ∷ last ∷ first ∷ last ∷ [])
-    ≡ refuse 0x2040 ∷ no_answer ∷ no_answer ∷ no_answer ∷ no_answer ∷ finish (1 ∷ 2 ∷ 9 ∷ []) ∷ []
+    ≡ refuse OutOfOrder ∷ no_answer ∷ no_answer ∷ no_answer ∷ no_answer ∷ finish (1 ∷ 2 ∷ 9 ∷ []) ∷ []
 unfolding begun first middle empty-middle last put_at is_due drop_due is_for kept_in join_sound receive kind_of_frame addressed role_of
 lost_last = refl
 
 -- a Single, or a First, ends the swallowing; behind the Last that does, a Middle is a stray again
-single-ends : receive_all 0x123 begun (0 ∷ 0 ∷ 0 ∷ []) (empty-middle ∷ single ∷ middle ∷ []) ≡ refuse 0x2040 ∷ finish (32 ∷ []) ∷ refuse 0x2040 ∷ []
+single-ends : receive_all 0x123 begun (0 ∷ 0 ∷ 0 ∷ []) (empty-middle ∷ single ∷ middle ∷ []) ≡ refuse OutOfOrder ∷ finish (32 ∷ []) ∷ refuse OutOfOrder ∷ []
 unfolding begun middle empty-middle single is_due drop_due is_for kept_in join_sound receive kind_of_frame addressed role_of
 single-ends = refl
 
-first_ends : receive_all 0x123 begun (0 ∷ 0 ∷ 0 ∷ []) (single ∷ first ∷ last ∷ []) ≡ refuse 0x2040 ∷ no_answer ∷ finish (1 ∷ 2 ∷ 9 ∷ []) ∷ []
+first_ends : receive_all 0x123 begun (0 ∷ 0 ∷ 0 ∷ []) (single ∷ first ∷ last ∷ []) ≡ refuse OutOfOrder ∷ no_answer ∷ finish (1 ∷ 2 ∷ 9 ∷ []) ∷ []
 unfolding begun first last single put_at is_due drop_due is_for kept_in join_sound receive kind_of_frame addressed role_of
 first_ends = refl
 
-last-ends : receive_all 0x123 begun (0 ∷ 0 ∷ 0 ∷ []) (single ∷ last ∷ middle ∷ []) ≡ refuse 0x2040 ∷ no_answer ∷ refuse 0x2040 ∷ []
+last-ends : receive_all 0x123 begun (0 ∷ 0 ∷ 0 ∷ []) (single ∷ last ∷ middle ∷ []) ≡ refuse OutOfOrder ∷ no_answer ∷ refuse OutOfOrder ∷ []
 unfolding begun middle last single is_due drop_due is_for kept_in join_sound receive kind_of_frame addressed role_of
 last-ends = refl
 
 -- the refused frame leaves the tick, and a swallowed one renews it
-kept-place : receive 0x123 2 begun first ≡ joined (state (swallowing_for 5 0 ∷ replicate 7 free_place) []) (refuse 0x2040)
+kept-place : receive 0x123 2 begun first ≡ joined (state (swallowing_for 5 0 ∷ replicate 7 free_place) []) (refuse OutOfOrder)
 unfolding begun first is_due drop_due is_for kept_in join_sound receive kind_of_frame addressed role_of
 kept-place = refl
 
@@ -129,7 +130,7 @@ renewed-place : receive 0x123 3000 swallowed middle ≡ joined (state (swallowin
 unfolding swallowed middle is_due drop_due is_for kept_in join_sound receive kind_of_frame addressed role_of
 renewed-place = refl
 
-too_old : receive 0x123 3001 swallowed middle ≡ joined (state (replicate 8 free_place) []) (refuse 0x2040)
+too_old : receive 0x123 3001 swallowed middle ≡ joined (state (replicate 8 free_place) []) (refuse OutOfOrder)
 unfolding swallowed middle is_due drop_due is_for kept_in join_sound receive kind_of_frame addressed role_of
 too_old = refl
 

@@ -50,7 +50,7 @@ module _ (H : Type 0) {W A : Type 0} (handle : W → List ℕ → A × W) where
   event-unrefused : (st : State) (w : W) (e : Event) → is_caller_error (answer_event {H = H} handle st w e).answer ≡ false
   event-unrefused st w ignored = refl
   event-unrefused st w no_answer = refl
-  event-unrefused st w (refuse code) = refl
+  event-unrefused st w (refuse refusal) = refl
   event-unrefused st w (finish d) = refl
 
   pub input-unrefused : (alias : ℕ) (st : State) (w : W) (t : ℕ) (i : Input) → is_caller_error (handle_input {H = H} handle alias st w t i).answer ≡ false
@@ -62,13 +62,13 @@ module _ (H : Type 0) {W A : Type 0} (handle : W → List ℕ → A × W) where
   pub accepted-is : (st : State) (w : W) (f : CanFrame) (e : Event) → accepts_frame (frame_input f) (answer_event {H = H} handle st w e).answer ≡ is_accepted e
   accepted-is st w f ignored = refl
   accepted-is st w f no_answer = refl
-  accepted-is st w f (refuse code) = refl
+  accepted-is st w f (refuse refusal) = refl
   accepted-is st w f (finish d) = refl
 
   pub answered-state : (st : State) (w : W) (e : Event) → (answer_event {H = H} handle st w e).state ≡ st
   answered-state st w ignored = refl
   answered-state st w no_answer = refl
-  answered-state st w (refuse code) = refl
+  answered-state st w (refuse refusal) = refl
   answered-state st w (finish d) = refl
 
 -- ---- joining by itself

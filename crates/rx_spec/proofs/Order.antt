@@ -203,7 +203,7 @@ module _ {C H W A : Type 0} (heard : C → Timed) (Fine : C → Type 0) (Fit : W
       ((v : W) → Fit v → Result (run_calls one st v cs) v es book) → After e es st w cs book
   first-call ignored es st w cs book t ih = behind ignored ignored_frame w (ih w t) refl refl
   first-call no_answer es st w cs book t ih = behind no_answer nothing w (ih w t) refl refl
-  first-call (refuse code) es st w cs book t ih = behind (refuse code) (transport_refusal code) w (ih w t) refl refl
+  first-call (refuse refusal) es st w cs book t ih = behind (refuse refusal) (transport_refusal refusal) w (ih w t) refl refl
   first-call (finish d) es st w cs book t ih =
       behind (finish d) (handled (handle w d).0) (handle w d).1 (ih (handle w d).1 (kept w d t)) refl refl
 

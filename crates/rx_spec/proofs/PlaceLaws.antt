@@ -14,7 +14,8 @@ use borrow.Author.Tests.{eqb-true, eq-eqb, ne_eqb, le-leb, leb-true, not-true}
 use Rattle.buffer.specs.Buffer.{put_at}
 use Rattle.buffer.proofs.Choice.{clash, by-test, and_left, and_right}
 use Rattle.buffer.proofs.Laws.{take-before, drop-behind, drop-put}
-use Rattle.rx_place_spec.specs.Place.{Place, free_place}
+use Rattle.rx_place_spec.specs.declared.Place.{Place}
+use Rattle.rx_place_spec.specs.Place.{free_place}
 use Rattle.rx_spec.specs.Books.{Book, blank, holds, swallowing, is_unfinished}
 use Rattle.rx_spec.specs.Reception.{is_for, kept_in, unfinished_in, place_of, free_in, has_place, full, sound_beside, sound}
 
@@ -117,12 +118,12 @@ kept_same p xs ys h =
 -- the place by what it has
 pub holds-not-swallowing : (p : Place) (pool b : List ℕ) → kept_in p pool ≡ holds b → p.swallowing ≡ false
 holds-not-swallowing p pool b e =
-    by-test p.swallowing (λ q. absurd (let x : swallowing ≡ holds b = sym (kept-swallowing p pool q) ∙ e in let y : ◌≡◌ {A = ℕ} 0 1 = cc in omega arith)) (λ q. q)
+    by-test p.swallowing (λ q. absurd (let x : swallowing ≡ holds b = sym (kept-swallowing p pool q) ∙ e in cc)) (λ q. q)
 
 pub swallowing-is : (p : Place) (pool : List ℕ) → kept_in p pool ≡ swallowing → p.swallowing ≡ true
 swallowing-is p pool e =
     by-test p.swallowing (λ q. q)
-    (λ q. absurd (let x : holds (take p.len pool) ≡ swallowing = sym (kept-bytes p pool q) ∙ e in let y : ◌≡◌ {A = ℕ} 0 1 = cc in omega arith))
+    (λ q. absurd (let x : holds (take p.len pool) ≡ swallowing = sym (kept-bytes p pool q) ∙ e in cc))
 
 -- ---- which sources have an unfinished datagram, from the places alone
 

@@ -15,10 +15,12 @@ use Rattle.buffer.proofs.Choice.{clash}
 use Rattle.buffer.proofs.Laws.{put_nil, take_put, put_length}
 use Rattle.can_frame.specs.declared.Role.{Role}
 use Rattle.can_frame.specs.declared.Role.TheVariants.{Ignored, Single, First, Middle, Last}
+use Rattle.can_frame.specs.declared.TransportRefusal.TheVariants.{OutOfOrder, TemporaryError, BufferUnavailable}
 use Rattle.can_frame.specs.Frame.{CanFrame, source_of, role_of}
 use Rattle.can_frame.proofs.Laws.{role_short, source-small}
-use Rattle.rx_place_spec.specs.Place.{Place, held_for, swallowing_for, free_place}
-use Rattle.rx_spec.specs.Books.{Book, blank, holds, swallowing, is_unfinished, Event, ignored, no_answer, refuse, finish, out_of_order, temporary_error, buffer_unavailable, Entry, entry, fits, book_rule}
+use Rattle.rx_place_spec.specs.declared.Place.{Place}
+use Rattle.rx_place_spec.specs.Place.{held_for, swallowing_for, free_place}
+use Rattle.rx_spec.specs.Books.{Book, blank, holds, swallowing, is_unfinished, Event, ignored, no_answer, refuse, finish, Entry, entry, fits, book_rule}
 use Rattle.rx_spec.specs.Times.{is_accepted}
 use Rattle.rx_place_spec.specs.State.{State, state}
 use Rattle.rx_spec.specs.Reception.{is_for, kept_in, unfinished_in, unfinished_for, place_of, free_in, has_place, full, stored, size_at, dropped, opened, appended, closed, swallowed, kept_after_refusal, Joined, joined, join_rule, join_sound}
@@ -217,7 +219,7 @@ fits_le b d e = leb-true (length b + length d) 72 e
 -- what comes of a frame by what the state has for its source, and by whether every place is held: the book's rule but for a First that finds no
 -- free place
 abbrev pub entry_of : Bool → Role → List ℕ → Book → Entry
-entry_of f First d blank = cond f (entry blank (refuse buffer_unavailable)) (book_rule First d blank)
+entry_of f First d blank = cond f (entry blank (refuse BufferUnavailable)) (book_rule First d blank)
 entry_of f First d (holds b) = book_rule First d (holds b)
 entry_of f First d swallowing = book_rule First d swallowing
 entry_of f Ignored d b = book_rule Ignored d b
@@ -245,32 +247,32 @@ module _ (now s : ℕ) (d : List ℕ) (ps : List Place) (pool : List ℕ) (g : G
   step : (v : Role) (b : Book) → unfinished_in ps pool s ≡ b → ((v ≡ Ignored → ⊥) → length d ≤ 8) → Steps v b
   step Ignored b h l = stays now (state ps pool) s g z b ignored h (λ u. refl)
   step Single blank h l = stays now (state ps pool) s g z blank (finish d) h (λ u. clash (sym u))
-  step Single (holds b) h l = keeps-after-refusal now ps pool s g z (holds b) h refl (refuse out_of_order) refl m
+  step Single (holds b) h l = keeps-after-refusal now ps pool s g z (holds b) h refl (refuse OutOfOrder) refl m
   step Single swallowing h l = drops now ps pool s g z swallowing h refl (finish d)
   step First blank h l = go (full ps) refl
     where
       go : (f : Bool) → full ps ≡ f → Steps First blank
-      go true e = rw e (stays now (state ps pool) s g z blank (refuse buffer_unavailable) h (λ u. refl))
-      go false e = rw e (opens now ps pool s d g z h (short First (λ e. let y : ◌≡◌ {A = ℕ} 0 1 = cc in omega arith) l) m e)
-  step First (holds b) h l = keeps-after-refusal now ps pool s g z (holds b) h refl (refuse out_of_order) refl m
-  step First swallowing h l = reopens now ps pool s g z swallowing h refl d (short First (λ e. let y : ◌≡◌ {A = ℕ} 0 1 = cc in omega arith) l) m
-  step Middle blank h l = stays now (state ps pool) s g z blank (refuse out_of_order) h (λ u. refl)
+      go true e = rw e (stays now (state ps pool) s g z blank (refuse BufferUnavailable) h (λ u. refl))
+      go false e = rw e (opens now ps pool s d g z h (short First (λ e. cc) l) m e)
+  step First (holds b) h l = keeps-after-refusal now ps pool s g z (holds b) h refl (refuse OutOfOrder) refl m
+  step First swallowing h l = reopens now ps pool s g z swallowing h refl d (short First (λ e. cc) l) m
+  step Middle blank h l = stays now (state ps pool) s g z blank (refuse OutOfOrder) h (λ u. refl)
   step Middle (holds b) h l = empty (eqb (length d) 0) refl
     where
       go : (t : Bool) → fits b d ≡ t → eqb (length d) 0 ≡ false → Steps Middle (holds b)
       go true e q = rw (q, e) (appends now ps pool s g z b h d m (fits_le b d e))
-      go false e q = rw (q, e) (keeps-after-refusal now ps pool s g z (holds b) h refl (refuse temporary_error) refl m)
+      go false e q = rw (q, e) (keeps-after-refusal now ps pool s g z (holds b) h refl (refuse TemporaryError) refl m)
 
       empty : (t : Bool) → eqb (length d) 0 ≡ t → Steps Middle (holds b)
-      empty true q = rw q (keeps-after-refusal now ps pool s g z (holds b) h refl (refuse out_of_order) refl m)
+      empty true q = rw q (keeps-after-refusal now ps pool s g z (holds b) h refl (refuse OutOfOrder) refl m)
       empty false q = go (fits b d) refl q
   step Middle swallowing h l = renews now ps pool s g z swallowing h refl m
-  step Last blank h l = stays now (state ps pool) s g z blank (refuse out_of_order) h (λ u. refl)
+  step Last blank h l = stays now (state ps pool) s g z blank (refuse OutOfOrder) h (λ u. refl)
   step Last (holds b) h l = go (fits b d) refl
     where
       go : (t : Bool) → fits b d ≡ t → Steps Last (holds b)
       go true e = rw e (closes now ps pool s g z b h d (finish (b ++ d)) (fits_le b d e))
-      go false e = rw e (drops now ps pool s g z (holds b) h refl (refuse temporary_error))
+      go false e = rw e (drops now ps pool s g z (holds b) h refl (refuse TemporaryError))
   step Last swallowing h l = drops now ps pool s g z swallowing h refl no_answer
 
 -- a frame joined to a sound state in which nothing is due

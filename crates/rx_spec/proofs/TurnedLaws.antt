@@ -7,7 +7,8 @@ use mathlib.Core.Bool.{Bool, true, false}
 use mathlib.Core.List.{List, [], ◌∷◌}
 use lib.ListN.{take, drop, get_or, set}
 use Rattle.buffer.proofs.Choice.{clash}
-use Rattle.rx_place_spec.specs.Place.{Place, free_place}
+use Rattle.rx_place_spec.specs.declared.Place.{Place}
+use Rattle.rx_place_spec.specs.Place.{free_place}
 use Rattle.rx_spec.specs.Reception.{is_for, has_place}
 use Rattle.rx_spec.proofs.PlaceLaws.{none-head, none_tail}
 

@@ -3,6 +3,8 @@
 use Rattle.std.specs.Prelude.{ℕ, ◌+◌, Bool, true, false, cond, List, ◌++◌, leb, eqb, length}
 use Rattle.can_frame.specs.declared.Role.{Role}
 use Rattle.can_frame.specs.declared.Role.TheVariants.{Ignored, Single, First, Middle, Last}
+use Rattle.can_frame.specs.declared.TransportRefusal.{TransportRefusal}
+use Rattle.can_frame.specs.declared.TransportRefusal.TheVariants.{OutOfOrder, TemporaryError}
 use Rattle.can_frame.specs.Frame.{CanFrame, role_of}
 
 -- "It is blank, as at the start, or holds the bytes joined so far. A datagram opened with zero bytes is held, not
@@ -19,24 +21,12 @@ is_unfinished (holds b) = true
 is_unfinished swallowing = true
 
 -- What a frame brings about: "answered with nothing" where it is ignored; "No answer" where it is joined, and where it
--- is swallowed; "transport refusal" with its code; "finishes a datagram".
+-- is swallowed; "transport refusal", which has a code; "finishes a datagram".
 pub data Event : Type 0 where
   ignored : Event
   no_answer : Event
-  refuse : ℕ → Event
+  refuse : TransportRefusal → Event
   finish : List ℕ → Event
-
--- The codes of the transport refusals. "Any other: transport refusal 0x2040"
-abbrev pub out_of_order : ℕ
-out_of_order = 0x2040
-
--- "over 72: transport refusal 0x2000"
-abbrev pub temporary_error : ℕ
-temporary_error = 0x2000
-
--- "while eight others have one: 0x2020": of a state alone, since no book knows another
-abbrev pub buffer_unavailable : ℕ
-buffer_unavailable = 0x2020
 
 -- The book after a frame, and what the frame brings about.
 pub record Entry : Type 0 where
@@ -62,18 +52,18 @@ fits b d = leb (length b + length d) 72
 abbrev pub book_rule : Role → List ℕ → Book → Entry
 book_rule Ignored d b = entry b ignored
 book_rule Single d blank = entry blank (finish d)
-book_rule Single d (holds b) = entry swallowing (refuse out_of_order)
+book_rule Single d (holds b) = entry swallowing (refuse OutOfOrder)
 book_rule Single d swallowing = entry blank (finish d)
 book_rule First d blank = entry (holds d) no_answer
-book_rule First d (holds b) = entry swallowing (refuse out_of_order)
+book_rule First d (holds b) = entry swallowing (refuse OutOfOrder)
 book_rule First d swallowing = entry (holds d) no_answer
-book_rule Middle d blank = entry blank (refuse out_of_order)
+book_rule Middle d blank = entry blank (refuse OutOfOrder)
 book_rule Middle d (holds b) =
-    cond (eqb (length d) 0) (entry swallowing (refuse out_of_order))
-    (cond (fits b d) (entry (holds (b ++ d)) no_answer) (entry swallowing (refuse temporary_error)))
+    cond (eqb (length d) 0) (entry swallowing (refuse OutOfOrder))
+    (cond (fits b d) (entry (holds (b ++ d)) no_answer) (entry swallowing (refuse TemporaryError)))
 book_rule Middle d swallowing = entry swallowing no_answer
-book_rule Last d blank = entry blank (refuse out_of_order)
-book_rule Last d (holds b) = cond (fits b d) (entry blank (finish (b ++ d))) (entry blank (refuse temporary_error))
+book_rule Last d blank = entry blank (refuse OutOfOrder)
+book_rule Last d (holds b) = cond (fits b d) (entry blank (finish (b ++ d))) (entry blank (refuse TemporaryError))
 book_rule Last d swallowing = entry blank no_answer
 
 -- A frame entered into a book, at the board's alias.

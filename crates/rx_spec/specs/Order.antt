@@ -4,6 +4,7 @@
 -- for it, a reply buffer for one.
 use Rattle.std.specs.Prelude.{ℕ, zero, suc, ◌+◌, ◌≤◌, ◌≡◌, Bool, true, false, cond, List, [], ◌∷◌, ◌++◌, map, length, take}
 use Rattle.buffer.specs.Buffer.{Each}
+use Rattle.can_frame.specs.declared.TransportRefusal.{TransportRefusal}
 use Rattle.can_frame.specs.Frame.{CanFrame}
 use Rattle.rx_place_spec.specs.Ticks.{tick_at}
 use Rattle.rx_spec.specs.Books.{Book, blank, is_unfinished, Event, ignored, no_answer, refuse, finish}
@@ -14,12 +15,12 @@ use Rattle.rx_spec.specs.Reception.{sound, at_tick, receive, unfinished_for}
 -- ---- a call handled
 
 -- The answer to a call: an error of the caller, which is "never sent"; none, to an ignored frame; none; a transport
--- refusal with its code; or what the datagram that the frame finishes is answered with.
+-- refusal; or what the datagram that the frame finishes is answered with.
 pub data CallAnswer (H A : Type 0) : Type 0 where
   caller_error : H → CallAnswer H A
   ignored_frame : CallAnswer H A
   nothing : CallAnswer H A
-  transport_refusal : ℕ → CallAnswer H A
+  transport_refusal : TransportRefusal → CallAnswer H A
   handled : A → CallAnswer H A
 
 -- What is left after a call, and its answer.
@@ -35,7 +36,7 @@ frame_result st w a = record { state = st; world = w; answer = a }
 abbrev pub answer_event : {H W A : Type 0} → (W → List ℕ → A × W) → State → W → Event → FrameResult H W A
 answer_event handle st w ignored = frame_result st w ignored_frame
 answer_event handle st w no_answer = frame_result st w nothing
-answer_event handle st w (refuse code) = frame_result st w (transport_refusal code)
+answer_event handle st w (refuse refusal) = frame_result st w (transport_refusal refusal)
 answer_event handle st w (finish d) = let x = handle w d in frame_result st x.1 (handled x.0)
 
 -- A frame at the tick `now`, and a tick that comes alone, at which what is due "is dropped without an answer": where
@@ -74,7 +75,7 @@ abbrev pub is_caller_error : {H A : Type 0} → CallAnswer H A → Bool
 is_caller_error (caller_error error) = true
 is_caller_error ignored_frame = false
 is_caller_error nothing = false
-is_caller_error (transport_refusal code) = false
+is_caller_error (transport_refusal refusal) = false
 is_caller_error (handled a) = false
 
 -- Whether a call brings a frame that is accepted: one that is joined or swallowed, so that it has no answer, or
@@ -85,7 +86,7 @@ accepts_frame lone_tick a = false
 accepts_frame (frame_input f) (caller_error error) = false
 accepts_frame (frame_input f) ignored_frame = false
 accepts_frame (frame_input f) nothing = true
-accepts_frame (frame_input f) (transport_refusal code) = false
+accepts_frame (frame_input f) (transport_refusal refusal) = false
 accepts_frame (frame_input f) (handled a) = true
 
 -- The calls cs, each made on what the one before left, are such that "no house number refuses" them.
@@ -101,7 +102,7 @@ abbrev pub datagrams_of : List Event → List (List ℕ)
 datagrams_of [] = []
 datagrams_of (ignored ∷ es) = datagrams_of es
 datagrams_of (no_answer ∷ es) = datagrams_of es
-datagrams_of (refuse code ∷ es) = datagrams_of es
+datagrams_of (refuse refusal ∷ es) = datagrams_of es
 datagrams_of (finish d ∷ es) = d ∷ datagrams_of es
 
 -- The answers: each finished datagram "handled whole" on what the earlier ones left.
@@ -109,7 +110,7 @@ abbrev pub answers_to : {H W A : Type 0} → (W → List ℕ → A × W) → W �
 answers_to handle w [] = []
 answers_to handle w (ignored ∷ es) = ignored_frame ∷ answers_to handle w es
 answers_to handle w (no_answer ∷ es) = nothing ∷ answers_to handle w es
-answers_to handle w (refuse code ∷ es) = transport_refusal code ∷ answers_to handle w es
+answers_to handle w (refuse refusal ∷ es) = transport_refusal refusal ∷ answers_to handle w es
 answers_to handle w (finish d ∷ es) = let x = handle w d in handled x.0 ∷ answers_to handle x.1 es
 
 -- What the datagrams leave, handled one after the other.

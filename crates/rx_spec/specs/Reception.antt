@@ -4,11 +4,13 @@ use Rattle.std.specs.Prelude.{ℕ, suc, ◌+◌, ◌*◌, Bool, true, false, con
 use Rattle.buffer.specs.Buffer.{put_at}
 use Rattle.can_frame.specs.declared.Role.{Role}
 use Rattle.can_frame.specs.declared.Role.TheVariants.{Ignored, Single, First, Middle, Last}
+use Rattle.can_frame.specs.declared.TransportRefusal.TheVariants.{OutOfOrder, TemporaryError, BufferUnavailable}
 use Rattle.can_frame.specs.Frame.{CanFrame, source_of, role_of}
-use Rattle.rx_place_spec.specs.Place.{Place, held_for, swallowing_for, free_place}
+use Rattle.rx_place_spec.specs.declared.Place.{Place}
+use Rattle.rx_place_spec.specs.Place.{held_for, swallowing_for, free_place}
 use Rattle.rx_place_spec.specs.Ticks.{drop_due}
 pub use Rattle.rx_place_spec.specs.State.{State, state}
-use Rattle.rx_spec.specs.Books.{Book, blank, holds, swallowing, Event, ignored, no_answer, refuse, finish, out_of_order, temporary_error, buffer_unavailable, fits}
+use Rattle.rx_spec.specs.Books.{Book, blank, holds, swallowing, Event, ignored, no_answer, refuse, finish, fits}
 
 -- ---- the state
 
@@ -118,10 +120,10 @@ joined st e = record { state = st; event = e }
 -- A Middle and a Last for the datagram b in place i. "Middle or Last that takes the total past 72 bytes: 0x2000,
 -- dropped", and what follows the Middle is swallowed.
 abbrev pub middle_at : ℕ → ℕ → ℕ → List ℕ → List ℕ → State → Joined
-middle_at s now i b d st = cond (fits b d) (joined (appended s d now i st) no_answer) (joined (kept_after_refusal s i st) (refuse temporary_error))
+middle_at s now i b d st = cond (fits b d) (joined (appended s d now i st) no_answer) (joined (kept_after_refusal s i st) (refuse TemporaryError))
 
 abbrev pub last_at : ℕ → List ℕ → List ℕ → State → Joined
-last_at i b d st = cond (fits b d) (joined (closed d i st) (finish (b ++ d))) (joined (dropped i st) (refuse temporary_error))
+last_at i b d st = cond (fits b d) (joined (closed d i st) (finish (b ++ d))) (joined (dropped i st) (refuse TemporaryError))
 
 -- The rules, by what the frame is to the board, its source and data, and what the state has for that source. "Single,
 -- none unfinished from that source: a datagram, its own last frame." "Single or First while that source has one
@@ -134,16 +136,16 @@ last_at i b d st = cond (fits b d) (joined (closed d i st) (finish (b ++ d))) (j
 abbrev pub join_rule : Role → ℕ → List ℕ → ℕ → State → Book → Joined
 join_rule Ignored s d now st b = joined st ignored
 join_rule Single s d now st blank = joined st (finish d)
-join_rule Single s d now st (holds b) = joined (kept_after_refusal s (place_of s st.places) st) (refuse out_of_order)
+join_rule Single s d now st (holds b) = joined (kept_after_refusal s (place_of s st.places) st) (refuse OutOfOrder)
 join_rule Single s d now st swallowing = joined (dropped (place_of s st.places) st) (finish d)
-join_rule First s d now st blank = cond (full st.places) (joined st (refuse buffer_unavailable)) (joined (opened s d now (free_in st.places) st) no_answer)
-join_rule First s d now st (holds b) = joined (kept_after_refusal s (place_of s st.places) st) (refuse out_of_order)
+join_rule First s d now st blank = cond (full st.places) (joined st (refuse BufferUnavailable)) (joined (opened s d now (free_in st.places) st) no_answer)
+join_rule First s d now st (holds b) = joined (kept_after_refusal s (place_of s st.places) st) (refuse OutOfOrder)
 join_rule First s d now st swallowing = joined (opened s d now (place_of s st.places) st) no_answer
-join_rule Middle s d now st blank = joined st (refuse out_of_order)
+join_rule Middle s d now st blank = joined st (refuse OutOfOrder)
 join_rule Middle s d now st (holds b) =
-    cond (eqb (length d) 0) (joined (kept_after_refusal s (place_of s st.places) st) (refuse out_of_order)) (middle_at s now (place_of s st.places) b d st)
+    cond (eqb (length d) 0) (joined (kept_after_refusal s (place_of s st.places) st) (refuse OutOfOrder)) (middle_at s now (place_of s st.places) b d st)
 join_rule Middle s d now st swallowing = joined (swallowed s now (place_of s st.places) st) no_answer
-join_rule Last s d now st blank = joined st (refuse out_of_order)
+join_rule Last s d now st blank = joined st (refuse OutOfOrder)
 join_rule Last s d now st (holds b) = last_at (place_of s st.places) b d st
 join_rule Last s d now st swallowing = joined (dropped (place_of s st.places) st) no_answer
 

@@ -83,7 +83,7 @@ start_book = dated blank 0
 abbrev pub is_accepted : Event → Bool
 is_accepted ignored = false
 is_accepted no_answer = true
-is_accepted (refuse code) = false
+is_accepted (refuse refusal) = false
 is_accepted (finish d) = true
 
 -- "an unfinished datagram whose source's last accepted frame is more than 3,000 ticks back is dropped without an

@@ -2,6 +2,7 @@
 use Rattle.std.specs.Prelude.{ℕ, ◌+◌, Bool, cond, leb, eqb}
 use Rattle.can_frame.specs.declared.Role.{Role}
 use Rattle.can_frame.specs.declared.Role.TheVariants.{Ignored, Single, First, Middle, Last}
+use Rattle.can_frame.specs.declared.TransportRefusal.TheVariants.{TemporaryError, OutOfOrder}
 use Rattle.rx_step.specs.declared.Step.{Step}
 use Rattle.rx_step.specs.declared.Step.TheVariants.{Ignore, Deliver, Open, Append, Close, Refuse, RefuseAndSwallow, Swallow, SwallowLast}
 
@@ -11,18 +12,18 @@ abbrev pub step_new : Role → Step
 step_new Ignored = Ignore
 step_new Single = Deliver
 step_new First = Open
-step_new Middle = Refuse 0x2040
-step_new Last = Refuse 0x2040
+step_new Middle = Refuse OutOfOrder
+step_new Last = Refuse OutOfOrder
 
 -- For a source that has len bytes unfinished: "Single or First while that source has one unfinished; an empty Middle:
 -- 0x2040". "Middle: appends. Last: appends, closes". "An empty Middle is tested before the total." "Middle or Last that
 -- takes the total past 72 bytes: 0x2000, dropped." What follows is swallowed, "unless the refused frame was a Last".
 abbrev pub step_more : Role → ℕ → ℕ → Step
 step_more Ignored len size = Ignore
-step_more Single len size = RefuseAndSwallow 0x2040
-step_more First len size = RefuseAndSwallow 0x2040
-step_more Middle len size = cond (eqb size 0) (RefuseAndSwallow 0x2040) (cond (leb (len + size) 72) Append (RefuseAndSwallow 0x2000))
-step_more Last len size = cond (leb (len + size) 72) Close (Refuse 0x2000)
+step_more Single len size = RefuseAndSwallow OutOfOrder
+step_more First len size = RefuseAndSwallow OutOfOrder
+step_more Middle len size = cond (eqb size 0) (RefuseAndSwallow OutOfOrder) (cond (leb (len + size) 72) Append (RefuseAndSwallow TemporaryError))
+step_more Last len size = cond (leb (len + size) 72) Close (Refuse TemporaryError)
 
 -- For a source that is being swallowed: its Middles "are swallowed unanswered, empty ones too, until its next Last,
 -- which is swallowed and frees the place. A Single or First frees it and counts as if nothing were unfinished."

@@ -4,29 +4,24 @@
 ghost use Rattle.std.specs.Prelude.{◌≡◌, ◌+◌, leb};
 ghost use Rattle.rx_step.specs.Step.{step_of, step_new, step_more, step_swallowed};
 
-use can_frame::Role;
+use can_frame::{Role, TransportRefusal};
 
 // The most bytes that a datagram may have.
 const LONGEST_DATAGRAM: u16 = 72;
 
-// The codes of the transport refusals.
-const TEMPORARY_ERROR: u16 = 0x2000;
-
-const OUT_OF_ORDER: u16 = 0x2040;
-
 // What a frame does. It is ignored; is a datagram by itself; opens one; is appended to the unfinished one; is appended
-// to it and closes it; is refused with a code, and the place of its source, if it has one, becomes free; is refused,
+// to it and closes it; is refused, and the place of its source, if it has one, becomes free; is refused,
 // and what follows is swallowed; is swallowed; or is swallowed and frees the place. A datagram by itself frees the
 // place too, and one that is opened takes it.
-#[derive(Drop)]
+#[derive(Clone, Copy)]
 pub enum Step {
     Ignore,
     Deliver,
     Open,
     Append,
     Close,
-    Refuse(u16),
-    RefuseAndSwallow(u16),
+    Refuse(TransportRefusal),
+    RefuseAndSwallow(TransportRefusal),
     Swallow,
     SwallowLast,
 }
@@ -43,21 +38,10 @@ fn step_new(role: Role) -> Step
     ensures { result ≡ step_new role }
 {
     match role {
-        Role::Ignored => {
-            return Step::Ignore;
-        }
-        Role::Single => {
-            return Step::Deliver;
-        }
-        Role::First => {
-            return Step::Open;
-        }
-        Role::Middle => {
-            return Step::Refuse(OUT_OF_ORDER);
-        }
-        Role::Last => {
-            return Step::Refuse(OUT_OF_ORDER);
-        }
+        Role::Ignored => Step::Ignore,
+        Role::Single => Step::Deliver,
+        Role::First => Step::Open,
+        Role::Middle | Role::Last => Step::Refuse(TransportRefusal::OutOfOrder),
     }
 }
 
@@ -66,30 +50,13 @@ fn step_more(role: Role, len: u8, size: u8) -> Step
     ensures { result ≡ step_more role len size }
 {
     match role {
-        Role::Ignored => {
-            return Step::Ignore;
-        }
-        Role::Single => {
-            return Step::RefuseAndSwallow(OUT_OF_ORDER);
-        }
-        Role::First => {
-            return Step::RefuseAndSwallow(OUT_OF_ORDER);
-        }
-        Role::Middle => {
-            if size == 0 {
-                return Step::RefuseAndSwallow(OUT_OF_ORDER);
-            }
-            if fits(len, size) {
-                return Step::Append;
-            }
-            return Step::RefuseAndSwallow(TEMPORARY_ERROR);
-        }
-        Role::Last => {
-            if fits(len, size) {
-                return Step::Close;
-            }
-            return Step::Refuse(TEMPORARY_ERROR);
-        }
+        Role::Ignored => Step::Ignore,
+        Role::Single | Role::First => Step::RefuseAndSwallow(TransportRefusal::OutOfOrder),
+        Role::Middle if size == 0 => Step::RefuseAndSwallow(TransportRefusal::OutOfOrder),
+        Role::Middle if fits(len, size) => Step::Append,
+        Role::Middle => Step::RefuseAndSwallow(TransportRefusal::TemporaryError),
+        Role::Last if fits(len, size) => Step::Close,
+        Role::Last => Step::Refuse(TransportRefusal::TemporaryError),
     }
 }
 
@@ -98,21 +65,11 @@ fn step_swallowed(role: Role) -> Step
     ensures { result ≡ step_swallowed role }
 {
     match role {
-        Role::Ignored => {
-            return Step::Ignore;
-        }
-        Role::Single => {
-            return Step::Deliver;
-        }
-        Role::First => {
-            return Step::Open;
-        }
-        Role::Middle => {
-            return Step::Swallow;
-        }
-        Role::Last => {
-            return Step::SwallowLast;
-        }
+        Role::Ignored => Step::Ignore,
+        Role::Single => Step::Deliver,
+        Role::First => Step::Open,
+        Role::Middle => Step::Swallow,
+        Role::Last => Step::SwallowLast,
     }
 }
 
@@ -122,11 +79,11 @@ fn step_swallowed(role: Role) -> Step
 pub fn step_of(role: Role, size: u8, unfinished: bool, swallowing: bool, len: u8) -> Step
     ensures { result ≡ step_of role size unfinished swallowing len }
 {
-    if unfinished {
-        if swallowing {
-            return step_swallowed(role);
-        }
-        return step_more(role, len, size);
+    if !unfinished {
+        step_new(role)
+    } else if swallowing {
+        step_swallowed(role)
+    } else {
+        step_more(role, len, size)
     }
-    step_new(role)
 }

@@ -1,9 +1,10 @@
 -- Laws of the places dropped one after the other.
 -- Assumes nothing.
-use Rattle.std.proofs.Common.{◌≡◌, ℕ, zero, suc, ◌+◌, ◌*◌, ◌<◌, Bool, true, false, cond, List, [], ◌∷◌, length, get_or, drop, set, sym, refl, ap, ◌∙◌, add-one}
+use Rattle.std.proofs.Common.{◌≡◌, ℕ, zero, suc, ◌+◌, ◌*◌, ◌<◌, true, false, List, [], ◌∷◌, length, get_or, drop, set, sym, refl, ap, ◌∙◌, add-one}
 use Rattle.buffer.specs.Buffer.{placed}
 use Rattle.buffer.proofs.Choice.{clash}
-use Rattle.rx_place_spec.specs.Place.{Place, free_place}
+use Rattle.rx_place_spec.specs.declared.Place.{Place}
+use Rattle.rx_place_spec.specs.Place.{free_place}
 use Rattle.rx_place_spec.specs.Ticks.{is_due, after_tick, drop_due}
 use Rattle.rx_place_spec.specs.PlaceBytes.{place_in, places_from, places_in, place_bytes, renewed}
 use Rattle.rx_place_spec.proofs.ByteLaws.{places-length, renewed-same, same_refl, differ-held, Changed, changed-places, changed-bytes, NotBack, Covers, renewed-twice, covers_where}
@@ -68,15 +69,16 @@ module _ (now : ℕ) where
   unfolding places_in
   first-covers i xs = from-covers 8 i xs
 
--- after the first i places: what they hold, and their bytes
+-- after the first i places: how many bytes there are, what the places hold, and the bytes
 pub record DroppedTo (now i : ℕ) (before after : List ℕ) : Type 0 where
+  pub size : length after ≡ length before
   pub places : places_in after ≡ drop_first now i (places_in before)
   pub bytes : after ≡ renewed (drop_first now i (places_in before)) before
 
 pub none_dropped : (now : ℕ) (xs : List ℕ) → DroppedTo now 0 xs xs
-none_dropped now xs = record { places = refl; bytes = renewed-same xs }
+none_dropped now xs = record { size = refl; places = refl; bytes = renewed-same xs }
 
-module _ (now i : ℕ) (before mid after : List ℕ) (d : DroppedTo now i before mid) (l : length mid ≡ 64) (h : i < 8) where
+module _ (now i : ℕ) (before mid after : List ℕ) (d : DroppedTo now i before mid) (m : length after ≡ length mid) (l : length before ≡ 64) (h : i < 8) where
   abbrev at : Place
   at = get_or (places_in mid) i free_place
 
@@ -86,15 +88,15 @@ module _ (now i : ℕ) (before mid after : List ℕ) (d : DroppedTo now i before
       let p : places_in after ≡ drop_first now (suc i) (places_in before) =
       e ∙ ap (λ (ps : List Place). set ps i (after_tick now (get_or ps i free_place))) d.places ∙ first_next now i (places_in before) in
       let t = renewed-twice before (drop_first now i (places_in before)) (drop_first now (suc i) (places_in before)) (first-covers now i before) (places-not-back now i before) in
-      rw add-one (record { places = p; bytes = b ∙ ap (λ (ps : List Place). renewed ps mid) p ∙ ap (renewed (drop_first now (suc i) (places_in before))) d.bytes ∙ t })
+      rw add-one (record { size = m ∙ d.size; places = p; bytes = b ∙ ap (λ (ps : List Place). renewed ps mid) p ∙ ap (renewed (drop_first now (suc i) (places_in before))) d.bytes ∙ t })
 
-  pub one-dropped : (due : Bool) → due ≡ is_due now at → after ≡ cond due (placed (8 * i) (place_bytes free_place) mid) mid → DroppedTo now (i + 1) before after
-  one-dropped true q e =
-      let c : Changed i free_place mid after = record { inside = h; size = l; bytes = e } in
-      let u : is_due now at ≡ true = sym q in
+  pub one-dropped : is_due now at ≡ true → after ≡ placed (8 * i) (place_bytes free_place) mid → DroppedTo now (i + 1) before after
+  one-dropped u e =
+      let c : Changed i free_place mid after = record { inside = h; size = d.size ∙ l; bytes = e } in
       passed (rw u (changed-places c)) (rw (changed-places c) (changed-bytes c (differ-held at free_place true (due_held now at u) refl)))
-  one-dropped false q e =
-      let u : is_due now at ≡ false = sym q in
+
+  pub one-kept : is_due now at ≡ false → after ≡ mid → DroppedTo now (i + 1) before after
+  one-kept u e =
       passed (ap places_in e ∙ rw u (sym (set_same i (places_in mid)))) (e ∙ renewed-same mid ∙ ap (λ (ys : List ℕ). renewed (places_in ys) mid) (sym e))
 
 pub all-dropped : (now i : ℕ) (xs after : List ℕ) → i ≡ 8 → DroppedTo now i xs after → (places_in after ≡ drop_due now (places_in xs)) × (after ≡ renewed (drop_due now (places_in xs)) xs)

@@ -2,11 +2,10 @@
 // they hold its unfinished datagram or it is being swallowed.
 #![tactic(auto)]
 
-ghost use Rattle.std.specs.Prelude.{◌≡◌, ◌*◌, cond, slice_index_or};
-ghost use Rattle.buffer.specs.Buffer.{placed};
+ghost use Rattle.std.specs.Prelude.{◌≡◌, slice_index_or};
 ghost use Rattle.rx_place_spec.specs.Place.{free_place};
 ghost use Rattle.rx_place_spec.specs.Ticks.{age, is_due, drop_due};
-ghost use Rattle.rx_place_spec.specs.PlaceBytes.{places_in, place_bytes, renewed};
+ghost use Rattle.rx_place_spec.specs.PlaceBytes.{places_in, renewed};
 
 const PLACES: usize = 8;
 
@@ -17,27 +16,14 @@ const LONGEST_AGE: u16 = 3000;
 fn age_of(now: u16, then: u16) -> u16
     ensures { result ≡ age now then }
 {
-    std::num::wrapping_sub_u16(now, then)
+    now.wrapping_sub(then)
 }
 
 // Whether place i is held, and is due at the tick.
 pub fn is_due(places: &[u8; 64], i: usize, tick: u16) -> bool
     ensures { result ≡ is_due tick (slice_index_or (places_in places.now) i free_place) }
 {
-    if !rx_place::is_held(places, i) {
-        return false;
-    }
-    LONGEST_AGE < age_of(tick, rx_place::tick_at(places, i))
-}
-
-// Place i freed where it is said to be due.
-fn free_where(places: &mut [u8], i: usize, due: bool)
-    ensures { places.new ≡ cond due (placed (8 * i) (place_bytes free_place) places.old) places.old }
-{
-    if !due {
-        return;
-    }
-    rx_place::free(places, i);
+    rx_place::is_held(places, i) && LONGEST_AGE < age_of(tick, rx_place::tick_at(places, i))
 }
 
 // Every place freed that is due. A place that is not changed keeps all its bytes.
@@ -45,10 +31,9 @@ pub fn drop_due(places: &mut [u8; 64], tick: u16)
     ensures places { places_in places.new ≡ drop_due tick (places_in places.old) }
     ensures renewal { places.new ≡ renewed (drop_due tick (places_in places.old)) places.old }
 {
-    let mut i: usize = 0;
-    while i < PLACES {
-        let due = is_due(places, i, tick);
-        free_where(places, i, due);
-        i += 1;
+    for i in 0..PLACES {
+        if is_due(places, i, tick) {
+            rx_place::free(places, i);
+        }
     }
 }

@@ -18,7 +18,7 @@ use Rattle.can_frame.specs.declared.Role.{Role}
 use Rattle.can_frame.specs.declared.Role.TheVariants.{Single, First, Middle, Last}
 use Rattle.can_frame.specs.Frame.{CanFrame, can_frame, source_of, kind_of_frame, role_of, header_of, frame_of}
 use Rattle.can_frame.proofs.Laws.{source-of_header, role_of_header}
-use Rattle.rx_place_spec.specs.Place.{Place}
+use Rattle.rx_place_spec.specs.declared.Place.{Place}
 use Rattle.rx_place_spec.specs.Ticks.{age}
 use Rattle.rx_spec.specs.Books.{Book, blank, holds, swallowing, Event, no_answer, finish, Entry, entry, fits, book_rule}
 use Rattle.rx_spec.specs.Times.{frame_input, is_accepted}

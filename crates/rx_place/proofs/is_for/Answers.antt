@@ -8,6 +8,6 @@ pub returns-then-is_held : goal.returns-then-is_held
 unfolding is_for
 returns-then-is_held c = simp (sym c.is_held.ensures ∙ c.if-is_held.true, sym c.source_at.ensures)
 
-pub returns : goal.returns
+pub returns-else-is_held : goal.returns-else-is_held
 unfolding is_for
-returns c = simp (sym c.is_held.ensures ∙ c.if-is_held.false)
+returns-else-is_held c = rw (sym c.is_held.ensures ∙ c.if-is_held.false) c.if-is_held.false

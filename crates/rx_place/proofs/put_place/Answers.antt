@@ -3,11 +3,8 @@
 use Prim.Native.Nat.{◌*◌}
 use native.Mathlib.Omega.{arith}
 use Rattle.buffer.proofs.Laws.{placed-not}
-use Rattle.rx_place_spec.specs.Place.{place}
 use Rattle.rx_place_spec.specs.PlaceBytes.{place_bytes}
 use Rattle.rx_place.proofs.put_place.Goals as goal
 
-pub returns-then-places-i : goal.returns-then-places-i
-returns-then-places-i c =
-    let a = c.args in
-    placed-not (8 * a.i) (place_bytes (place a.held a.len a.source a.tick a.swallowing)) a.places.now (omega arith)
+pub returns-else-i-places : goal.returns-else-i-places
+returns-else-i-places c = let a = c.args in placed-not (8 * a.i) (place_bytes a.place) a.places.now (omega arith)

@@ -15,4 +15,4 @@ pub loop-i-preserved : goal.loop-i-preserved
 loop-i-preserved c =
     let a = c.args in
     let l = places-length a.places.now in
-    (omega arith, has_next (places_in a.places.now) c.loop-i.i (omega arith) a.source ∙ rw (c.loop-i.invariant.1, sym c.is_for.ensures ∙ c.if-is_for.false))
+    has_next (places_in a.places.now) c.loop-i.i (omega arith) a.source ∙ rw (c.loop-i.invariant, sym c.is_for.ensures ∙ c.if-is_for.false)

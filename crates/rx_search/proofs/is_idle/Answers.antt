@@ -1,18 +1,12 @@
 -- `rx_search::is_idle` meets its contract.
 -- Assumes nothing.
-use mathlib.Core.Path.{sym, ◌∙◌}
+use native.Mathlib.Omega.{arith}
 use borrow.Author.Tests.{eqb-true}
-use Rattle.rx_search.proofs.IdleLaws.{neither, all-free}
+use Rattle.rx_search.proofs.IdleLaws.{zero_next, all-free}
 use Rattle.rx_search.proofs.is_idle.Goals as goal
 
+pub loop-i-preserved : goal.loop-i-preserved
+loop-i-preserved c = zero_next c.args.places.now c.loop-i.i c.loop-i.held c.loop-i.invariant
+
 pub returns : goal.returns
-returns c r =
-    let xs = c.args.places.now in
-    let n = neither _ _ (eqb-true _ 0 r) in
-    let d = neither _ _ (sym c.held_of_first.ensures ∙ n.0) in
-    let c' = neither _ _ d.0 in
-    let a = neither _ _ c'.0 in
-    let h = neither _ _ (sym c.held_of_last.ensures ∙ n.1) in
-    let g = neither _ _ h.0 in
-    let e = neither _ _ g.0 in
-    all-free xs a.0 a.1 c'.1 d.1 e.0 e.1 g.1 h.1
+returns c e = all-free c.args.places.now (λ k h. c.loop-i.invariant (eqb-true _ 0 e) k (omega arith))

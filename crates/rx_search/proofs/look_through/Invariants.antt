@@ -2,7 +2,6 @@
 -- `due` says whether one of them is due.
 -- Assumes nothing.
 use mathlib.Core.Path.{◌≡◌}
-use Prim.Native.Nat.{◌-◌}
 use lib.ListN.{take}
 use Rattle.rx_place_spec.specs.PlaceBytes.{places_in}
 use Rattle.rx_search.specs.Search.{any_due}
@@ -10,7 +9,4 @@ use Rattle.rx_search.proofs.SearchLaws.{Passed}
 use Rattle.rx_search.proofs.look_through.Given as goal
 
 abbrev pub invariant-loop-i : goal.invariant-loop-i
-invariant-loop-i l = Passed l.source (places_in l.places) l.i l.found × (l.due ≡ any_due l.tick (take l.i (places_in l.places)))
-
-abbrev pub decreases-loop-i : goal.decreases-loop-i
-decreases-loop-i l = 8 - l.i
+invariant-loop-i g l = Passed l.source (places_in l.places) l.i l.found × (l.due ≡ any_due l.tick (take l.i (places_in l.places)))

@@ -9,5 +9,5 @@ pub returns : goal.returns
 returns c pool d at =
     let e = c in
     let a = e.args in
-    refuse-and-swallow_done a.i a.source d at pool a.places.now true a.code c.tick_at-tick.result _ e.requires c.tick_at-tick.ensures
+    refuse-and-swallow_done a.i a.source d at pool a.places.now true a.refusal c.tick_at-tick.result _ e.requires c.tick_at-tick.ensures
     (record { inside = e.requires.inside; size = search rules; bytes = c.swallow.ensures })

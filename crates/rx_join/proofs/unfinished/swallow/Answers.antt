@@ -5,7 +5,8 @@ use mathlib.Core.Bool.{true, false, ◌&&◌}
 use lib.Dec.{eqb}
 use lib.ListN.{get_or}
 use borrow.Author.Rules.{rules}
-use Rattle.rx_place_spec.specs.Place.{Place, free_place}
+use Rattle.rx_place_spec.specs.declared.Place.{Place}
+use Rattle.rx_place_spec.specs.Place.{free_place}
 use Rattle.rx_place_spec.specs.PlaceBytes.{places_in}
 use Rattle.rx_join_spec.proofs.JoinLaws.{swallow_same, swallow_else}
 use Rattle.rx_join.proofs.unfinished.swallow.Goals as goal
