@@ -69,7 +69,7 @@ fn newline_in(bytes: &[u8]) -> usize
 }
 
 // How many bytes stand before the first newline, or in all. Four are looked at in each turn: `position` over all bytes
-// takes a twelfth longer for a chunk of lines.
+// takes a ninth longer for a chunk of lines.
 pub fn line_size(rest: &[u8]) -> usize
     ensures { result ≡ length (until_newline rest.now) }
 {
