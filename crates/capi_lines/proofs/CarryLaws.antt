@@ -1,6 +1,6 @@
 -- Laws of a carry in its bytes: it is found again in them, its text as it is copied, and that a step reads no more than the beginning.
 -- Assumes nothing.
-use Prim.Native.Nat.{ℕ, ◌-◌, ◌≤◌}
+use Prim.Native.Nat.{ℕ, ◌+◌, ◌-◌, ◌≤◌}
 use mathlib.Core.Path.{◌≡◌, refl, sym, ◌∙◌}
 use mathlib.Core.List.{List, [], ◌∷◌, ◌++◌, append-nil}
 use native.Mathlib.Omega.{arith}
@@ -11,6 +11,12 @@ use Rattle.buffer.proofs.Laws.{placed-fits}
 use Rattle.gridconnect_input.specs.Input.{unfinished, cut_off, carry_of, next_of, last_of}
 use Rattle.gridconnect_input.specs.declared.Carry.{Carry}
 use Rattle.capi_lines.specs.Lines.{carry_bytes, carry_in, SameBeginning, CarryAgain}
+
+-- bytes put over a part of a buffer
+pub put-between : (at n : ℕ) (xs buffer : List ℕ) {after : List ℕ} → length xs ≡ n → at + n ≤ length buffer → after ≡ placed at xs buffer
+    → after ≡ take at buffer ++ xs ++ drop (at + n) buffer
+unfolding put_at
+put-between at n xs buffer e h q = q ∙ placed-fits at xs buffer (rw e h) ∙ rw e
 
 pub carry-again : CarryAgain
 unfolding carry_bytes carry_in

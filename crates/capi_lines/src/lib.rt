@@ -31,7 +31,11 @@ fn parsed_in_bytes(parsed: Parsed) -> ParsedBytes
     if let Some(frame) = parsed {
         let data = frame.bytes;
         bytes[0] = YES;
-        bytes[4..].copy_from_slice(&can_frame_bytes::bytes_of(frame.header, frame.len, data));
+        buffer::put(
+            &mut bytes,
+            4,
+            &can_frame_bytes::bytes_of(frame.header, frame.len, data),
+        );
     }
     bytes
 }
@@ -43,7 +47,7 @@ fn line_in_bytes(line: Option<Parsed>) -> LineBytes
     let mut bytes = [0u8; 24];
     if let Some(parsed) = line {
         bytes[0] = YES;
-        bytes[4..].copy_from_slice(&parsed_in_bytes(parsed));
+        buffer::put(&mut bytes, 4, &parsed_in_bytes(parsed));
     }
     bytes
 }
@@ -53,7 +57,7 @@ fn text_in(bytes: &CarryBytes) -> [u8; 29]
     ensures { result ≡ take 29 (drop 1 bytes.now) }
 {
     let mut text = [0u8; 29];
-    text.copy_from_slice(&bytes[1..30]);
+    buffer::put(&mut text, 0, &bytes[1..30]);
     text
 }
 
@@ -77,7 +81,7 @@ fn carry_in_bytes(len: u8, text: [u8; 29]) -> CarryBytes
 {
     let mut bytes = [0u8; 32];
     bytes[0] = len;
-    bytes[1..30].copy_from_slice(&text);
+    buffer::put(&mut bytes, 1, &text);
     bytes
 }
 

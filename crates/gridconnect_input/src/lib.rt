@@ -57,15 +57,18 @@ pub fn append(carry: Carry, part: &[u8]) -> Carry
     }
 }
 
-// The index of the first newline, or the length.
+// The index of the first newline, or the length. By index: digits come this way, and before it is optimised an iterator over
+// a slice has a product.
 fn newline_in(bytes: &[u8]) -> usize
     ensures value { result ≡ length (until_newline bytes.now) }
     ensures within { result ≤ length bytes.now }
 {
-    bytes
-        .iter()
-        .position(|b| *b == b'\n')
-        .unwrap_or(bytes.len())
+    for i in 0..bytes.len() {
+        if bytes[i] == b'\n' {
+            return i;
+        }
+    }
+    bytes.len()
 }
 
 // How many bytes stand before the first newline, or in all. Four are looked at in each turn: `position` over all bytes

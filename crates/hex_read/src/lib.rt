@@ -48,7 +48,8 @@ pub fn read_bytes(text: &[u8]) -> Option<HexBytes>
     })
 }
 
-// Reads eight digits, most significant first.
+// Reads eight digits, most significant first. They are found by index: an iterator over a slice has a product before it is
+// optimised.
 pub fn read_number(text: &[u8]) -> Option<u32>
     ensures value { result ≡ read_number text.now }
     ensures read_back { NumberBack }
@@ -59,8 +60,8 @@ pub fn read_number(text: &[u8]) -> Option<u32>
     }
     let mut value: u32 = 0;
     let mut worst: u8 = 0;
-    for c in text {
-        let digit = hex_digit::value_of(*c);
+    for i in 0..8 {
+        let digit = hex_digit::value_of(text[i]);
         worst = worst | digit;
         value = (value << 4) + u32::from(digit & 15);
     }

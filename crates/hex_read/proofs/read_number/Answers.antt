@@ -67,14 +67,14 @@ returns-then-text-ne8 c = record {
   printed_again = number-again;
 }
 
-pub loop-c-init : goal.loop-c-init
-loop-c-init c = (omega arith, refl, λ t. rw (zero-mul, zero-add))
+pub loop-i-init : goal.loop-i-init
+loop-i-init c = (omega arith, refl, λ t. rw (zero-mul, zero-add))
 
-pub loop-c-preserved : goal.loop-c-preserved
-loop-c-preserved c =
+pub loop-i-preserved : goal.loop-i-preserved
+loop-i-preserved c =
     let s = c.args.text.now in
-    let l = c.loop-c in
-    let i = l.c-index in
+    let l = c.loop-i in
+    let i = l.i in
     let x = c.value_of-digit.result in
     let e = c.value_of-digit.ensures in
     let k : i < length s = omega arith in
@@ -88,9 +88,9 @@ loop-c-preserved c =
 pub returns-then-worst-gt15 : goal.returns-then-worst-gt15
 returns-then-worst-gt15 c =
     let s = c.args.text.now in
-    let l = c.loop-c in
+    let l = c.loop-i in
     record {
-      value = no-number s c.if-text-ne8.false (one-bad s l.c-index l.worst l.invariant.1 c.if-worst-gt15.true);
+      value = no-number s c.if-text-ne8.false (one-bad s l.i l.worst l.invariant.1 c.if-worst-gt15.true);
       read_back = number-read-back;
       printed_again = number-again;
     }
@@ -98,9 +98,9 @@ returns-then-worst-gt15 c =
 pub returns : goal.returns
 returns c =
     let s = c.args.text.now in
-    let l = c.loop-c in
-    let e : l.c-index ≡ 8 = omega (arith, c.if-text-ne8.false) in
-    let t = all-good s l.c-index l.worst l.invariant.1 (omega arith) (omega arith) in
+    let l = c.loop-i in
+    let e : l.i ≡ 8 = omega (arith, c.if-text-ne8.false) in
+    let t = all-good s l.i l.worst l.invariant.1 (omega arith) (omega arith) in
     record {
       value = a-number s c.if-text-ne8.false l.value t (rw e at (l.invariant.2 t));
       read_back = number-read-back;
