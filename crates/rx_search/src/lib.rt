@@ -11,7 +11,7 @@ ghost use Rattle.rx_search.specs.Search.{there, unsound, looked_up};
 use rx_place::PLACES;
 
 // What a search finds: the place of a source, which is `PLACES` where it has none, and whether a place is due. No Option:
-// beside its tag ignored frames took up to a fifth longer, and frames beside unfinished datagrams a tenth.
+// its tag stayed beside the number to the end of the frame call, and ignored frames took some 6 in a hundred longer.
 #[derive(Clone, Copy)]
 pub struct Looked {
     pub place: usize,
