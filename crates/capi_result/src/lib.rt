@@ -1,4 +1,5 @@
-// What comes of a call as numbers in the result that a caller in C lends.
+// What comes of a call as numbers in the result that a caller in C lends. Each function here is inlined: what comes of a
+// call is a Result of an enum with fields, which would go over the stack otherwise, and that took a third of a frame's time.
 #![tactic(auto)]
 
 ghost use Rattle.std.specs.Prelude.{◌≡◌};
@@ -14,6 +15,7 @@ use reply_answer::Answer;
 // The numbers are put into the result that C lends: `From`, which gives a value of its own, would make them elsewhere,
 // to be copied here.
 
+#[inline(always)]
 fn of_error(error: CallError, frame_count: usize, res: &mut ResultBytes)
     ensures { res.new ≡ result_bytes (in_bytes (error_numbers error frame_count)) }
 {
@@ -21,6 +23,7 @@ fn of_error(error: CallError, frame_count: usize, res: &mut ResultBytes)
     capi_numbers::of_refusal(call_error::number_of(error), position, frame_count, res)
 }
 
+#[inline(always)]
 fn of_answer(answer: Answer, frame_count: usize, res: &mut ResultBytes)
     ensures { res.new ≡ result_bytes (in_bytes (answer_numbers answer frame_count)) }
 {
@@ -38,6 +41,7 @@ fn of_answer(answer: Answer, frame_count: usize, res: &mut ResultBytes)
 }
 
 // The call for a whole datagram.
+#[inline(always)]
 pub fn of_handled(handled: Result<Answer, CallError>, res: &mut ResultBytes)
     ensures { res.new ≡ result_bytes (in_bytes (handled_numbers handled)) }
 {
@@ -48,6 +52,7 @@ pub fn of_handled(handled: Result<Answer, CallError>, res: &mut ResultBytes)
 }
 
 // The frame call, with the number of frames to send.
+#[inline(always)]
 pub fn of_frame(answer: Result<FrameAnswer, CallError>, frame_count: usize, res: &mut ResultBytes)
     ensures { res.new ≡ result_bytes (in_bytes (frame_numbers answer frame_count)) }
 {
@@ -60,7 +65,13 @@ pub fn of_frame(answer: Result<FrameAnswer, CallError>, frame_count: usize, res:
             capi_numbers::of_kind(Kind::Joined as u32, 0, 0, frame_count, res)
         }
         Ok(FrameAnswer::TransportRefusal(refusal)) => {
-            capi_numbers::of_kind(Kind::TransportRefusal as u32, 0, refusal.code(), frame_count, res)
+            capi_numbers::of_kind(
+                Kind::TransportRefusal as u32,
+                0,
+                refusal.code(),
+                frame_count,
+                res,
+            )
         }
         Ok(FrameAnswer::Answered(done)) => of_answer(done, frame_count, res),
     }

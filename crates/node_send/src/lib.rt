@@ -40,7 +40,10 @@ pub fn frames_to_send(
         Ok(FrameAnswer::Ignored) => 0,
         Ok(FrameAnswer::Nothing) => 0,
         Ok(FrameAnswer::TransportRefusal(refusal)) => tx_transport::rejected(
-            board, tool, refusal.code(), frames,
+            board,
+            tool,
+            refusal.code(),
+            frames,
         ),
         Ok(FrameAnswer::Answered(done)) => send_answer(done, reply, board, tool, frames),
     }

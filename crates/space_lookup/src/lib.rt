@@ -19,7 +19,11 @@ pub enum Found {
 pub fn size_of(space: Space) -> usize
     ensures { (result ≡ size_of space) × (result ≤ 4294967296) }
 {
-    (space.highest as usize + 1).saturating_sub(space.lowest as usize)
+    if space.highest < space.lowest {
+        0
+    } else {
+        (space.highest - space.lowest) as usize + 1
+    }
 }
 
 // What is known of the space with that number.
