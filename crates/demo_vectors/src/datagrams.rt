@@ -121,13 +121,7 @@ fn handle(
         spaces: &table[..described],
         flash: &demo_board::flash_bytes(),
     };
-    node_call::handle_datagram(
-        &board,
-        memory,
-        registers,
-        datagram,
-        reply,
-    )
+    node_call::handle_datagram(&board, memory, registers, datagram, reply)
 }
 
 // The line for a datagram.

@@ -34,15 +34,7 @@ pub fn answer_frame(
     ensures order { BusOrder (board_of board) }
 {
     let answer = node_call::handle_frame(
-        board,
-        memory,
-        registers,
-        pool,
-        places,
-        tick,
-        header,
-        payload,
-        reply,
+        board, memory, registers, pool, places, tick, header, payload, reply,
     );
     let tool = can_frame::source_of(header);
     let count = node_send::frames_to_send(answer, &reply[..], board.alias, tool, frames);

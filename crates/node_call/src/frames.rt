@@ -22,13 +22,7 @@ fn answer_datagram(
     ensures { AnswersCall (board_of board) (brings (finish datagram.now)) (Ok result)
         memory registers reply }
 {
-    FrameAnswer::Answered(exec_datagram::handle(
-        board,
-        memory,
-        registers,
-        datagram,
-        reply,
-    ))
+    FrameAnswer::Answered(exec_datagram::handle(board, memory, registers, datagram, reply))
 }
 
 // The answer to what joining gave, whatever it left of the reception state.
@@ -49,13 +43,7 @@ pub fn answer_outcome(
         Outcome::Ignored => FrameAnswer::Ignored,
         Outcome::NoAnswer => FrameAnswer::Nothing,
         Outcome::TransportRefusal(refusal) => FrameAnswer::TransportRefusal(refusal),
-        Outcome::InFrame => answer_datagram(
-            board,
-            memory,
-            registers,
-            payload,
-            reply,
-        ),
+        Outcome::InFrame => answer_datagram(board, memory, registers, payload, reply),
         Outcome::InPool(from, end) => answer_datagram(
             board,
             memory,

@@ -55,15 +55,7 @@ pub fn handle_frame(
     )?;
     let later = check_later();
     let outcome = rx_join::join(pool, places, board.alias, tick, header, payload, later)?;
-    Ok(frames::answer_outcome(
-        board,
-        memory,
-        registers,
-        &pool[..],
-        outcome,
-        payload,
-        reply,
-    ))
+    Ok(frames::answer_outcome(board, memory, registers, &pool[..], outcome, payload, reply))
 }
 
 // Handles a datagram that is handed over whole.
@@ -83,13 +75,7 @@ pub fn handle_datagram(
         memory.len(),
         reply.len(),
     )?;
-    Ok(exec_datagram::handle(
-        board,
-        memory,
-        registers,
-        datagram,
-        reply,
-    ))
+    Ok(exec_datagram::handle(board, memory, registers, datagram, reply))
 }
 
 // Hears a tick that comes with no frame, unless B7 refuses the places. The bytes of unfinished datagrams

@@ -55,6 +55,8 @@ DEFINED = re.compile(r'^define .*?@("[^"]+"|[\w.$]+)\(')
 CALLED = re.compile(r'@("[^"]+"|[\w.$]+)\(')
 OPERATION = re.compile(r"^\s+(?:%\S+ = )?(?:tail |musttail |notail )?([a-z]\w*)(?:\s|$)(.*)$")
 MOVES = re.compile(r"llvm\.mem(move|cpy|set)\.p0(\.p0)?\.i64")
+# A case of a `switch` stands on a line of its own: a constant and where it leads.
+CASE = re.compile(r"^\s+i\d+ -?\d+, label %[\w.]+$")
 WIDENS = re.compile(r"^(?:zext|sext) (?:nneg )?i\d+ \S+ to i64\b|^trunc (?:nuw |nsw )*i64 \S+ to i\d+\b")
 
 
@@ -135,7 +137,7 @@ def faults_of_module(name, lines):
     wide = 0
     for line in lines:
         found = OPERATION.match(line)
-        if not found or line.rstrip().endswith(":"):
+        if not found or line.rstrip().endswith(":") or CASE.match(line):
             continue
         operation, rest = found[1], found[2]
         if operation not in OPERATIONS:
