@@ -54,8 +54,8 @@ def flags():
 
 def numbers():
     """1c: constants that number kinds, codes or outcomes, and variants that carry a code as a number."""
-    return each_line(r"\bconst (?!VERSION|LONGEST|SMALLEST|PLACES|PLACE_ROOM|PAIRS|MOST|FILL|TICK|SPARE|MEMORY_)\w+: u(8|16|32|size) ="
-                     r"|^\s+\w+\(u16\),")
+    limits = "VERSION|LONGEST|SMALLEST|PLACES|PLACE_ROOM|PAIRS|MOST|FILL|TICK|SPARE|MEMORY_"
+    return each_line(rf"\bconst (?!{limits})\w+: u(8|16|32|size) =|^\s+\w+\(u16\),")
 
 
 def twins():
