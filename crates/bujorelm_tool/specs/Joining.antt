@@ -23,7 +23,8 @@ joined_of (Ok (outcome.TransportRefusal refusal)) = joined_bytes 3 (refusal_code
 joined_of (Ok outcome.InFrame) = joined_bytes 4 0 0 0
 joined_of (Ok (outcome.InPool from end)) = joined_bytes 5 0 from end
 
--- The refusal that a code stands for: it is one of the three.
+-- The refusal that a code stands for. There are three, and `joined_of` gives no other code: any other number is read as
+-- the last of them.
 abbrev pub refusal_of : ℕ → TransportRefusal
 refusal_of code = cond (eqb code 0x2000) TemporaryError (cond (eqb code 0x2020) BufferUnavailable OutOfOrder)
 

@@ -8,7 +8,8 @@ use Rattle.space_lookup.specs.declared.Found.TheVariants.{Described, Empty, Unkn
 use Rattle.space_reach.specs.declared.Failure.{Failure}
 use Rattle.space_reach.specs.declared.Failure.TheVariants.{UnknownSpace, OutOfBounds, ReadOnlySpace}
 
--- The code in a failure reply.
+-- Document 01, "In a failure reply": "0x1081 space neither described nor 0xFD–0xFF", "0x1082 address outside, or space
+-- empty", "0x1083 write to a read-only space".
 abbrev pub code_of : Failure → ℕ
 code_of UnknownSpace = 0x1081
 code_of OutOfBounds = 0x1082

@@ -27,6 +27,7 @@ first_zero (c ∷ more) = cond (eqb c 0) 0 (suc (first_zero more))
 unfoldable pub is_text : List ℕ → Bool
 is_text bytes = eqb (length bytes) 0 || eqb (first_zero bytes + 1) (length bytes)
 
+-- n bytes from an index on.
 abbrev pub span : ℕ → ℕ → Span
 span start n = record { start = start; length = n }
 
@@ -54,6 +55,7 @@ head_in d = head_length (form_in d)
 abbrev pub or_none : Bool → ReplyIn → Option ReplyIn
 or_none right r = cond right (Some r) None
 
+-- The form, the space and the address, where the command has them.
 abbrev pub target_in : List ℕ → Target
 target_in d = record { form = form_in d; space = space_of (form_in d) d; address = address_of d }
 
@@ -79,6 +81,7 @@ failure_fits d = leb (head_in d + 2) (length d) && (leb (length d - (head_in d +
 abbrev pub message_in : List ℕ → Option Span
 message_in d = text_from (head_in d + 2) (length d)
 
+-- What failed, the code, and the message behind it.
 abbrev pub failure_in : List ℕ → Failure
 failure_in d = record { target = target_in d; code = code_in d; message = message_in d }
 
@@ -94,6 +97,7 @@ lowest_named space name = record { space = space; name = name }
 abbrev pub read_lowest : List ℕ → Option LowestSpace
 read_lowest d = cond (eqb (length d) 6) None (Some (lowest_named (get_or d 6 0) (text_from 7 (length d))))
 
+-- Bytes 2 and 3, 4, 5, and what is from byte 6 on.
 abbrev pub options_in : List ℕ → Options
 options_in d = record { commands = two_bytes_at 2 d; write_lengths = get_or d 4 0; highest_space = get_or d 5 0; lowest = read_lowest d }
 
@@ -112,6 +116,7 @@ description_start d = cond (is_given d) 12 8
 abbrev pub read_address : List ℕ → Option ℕ
 read_address d = cond (is_given d) (Some (number_of (get_or d 8 0) (get_or d 9 0) (get_or d 10 0) (get_or d 11 0))) None
 
+-- Byte 2, bytes 3 to 6, byte 7, and what is from byte 8 on.
 abbrev pub information_in : Bool → List ℕ → Information
 information_in present d =
     record {
