@@ -1,5 +1,6 @@
 // What comes of a call as numbers in the result that a caller in C lends. Each function here is inlined: what comes of a
-// call is a Result of an enum with fields, which would go over the stack otherwise, and that took a third of a frame's time.
+// call is a Result of an enum with fields, which would go over the stack otherwise. Without it an ignored frame took from
+// 1.4 to 1.8 times as long.
 #![tactic(auto)]
 
 ghost use Rattle.std.specs.Prelude.{◌≡◌};

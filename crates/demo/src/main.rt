@@ -14,7 +14,7 @@ use std::io;
 
 // A block of the input: its lines are answered, as many at a time as `out` has room for, and each text is written.
 // Nothing more is answered where a text could not be written. Returns the beginning of a line that the next block goes
-// on with.
+// on with. The index goes on by what was read, and not by one.
 fn answer_block(
     rt: &HostRuntime,
     board: &Board<'_>,

@@ -4,7 +4,8 @@ use std::io;
 use std::io::{ErrorKind, Print, Read};
 
 // Reads some bytes, and returns how many: none at the end of the input. A proved loop has to end, and nothing says that
-// interruptions do: the calls are counted.
+// interruptions do: the calls are counted. One read at once, since a terminal is answered line by line; std's loops that
+// read again after an interruption read to the end.
 pub fn read(rt: &HostRuntime, input: &mut [u8]) -> io::Result<usize> {
     for _ in 0..u64::MAX {
         match rt.stdin().read(input) {

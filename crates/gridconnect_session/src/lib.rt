@@ -48,7 +48,8 @@ fn answer_next(
 }
 
 // Answers the lines of a chunk from index `from` on, behind what an earlier chunk left, as far as `out` has room: their
-// text stands in front of `out`. Where the chunk is not read to its end, the caller writes the text and calls again.
+// text stands in front of `out`. Where the chunk is not read to its end, the caller writes the text and calls again. The
+// index goes on by what was read, and not by one.
 pub fn answer_chunk(
     board: &Board<'_>,
     memory: &mut [u8],

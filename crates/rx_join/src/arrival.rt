@@ -18,8 +18,8 @@ fn where_held(places: &[u8; 64], i: usize) -> usize
     }
 }
 
-// What is due dropped, where the search found that something is; and the place that it found for the source, or `PLACES`
-// where that was freed.
+// What is due dropped, where the search found that something is; and the place that it found for the source, or
+// `PLACES` where that was freed.
 pub fn arrive(places: &mut [u8; 64], looked: Looked, tick: u16) -> usize
     ensures found { result ≡ cond looked.due (cond (get_or (places_in places.new) looked.place free_place).held looked.place 8)
         looked.place }

@@ -16,9 +16,9 @@ use rx_place::PLACES;
 use rx_step::Step;
 
 // A frame's source, data, tick and place are arguments of their own, and so are pool and places. Structs of them would
-// be no plainer: the clauses below name each one alone (`step_done .. source i payload.now tick`), only two of the
-// functions take all four, and half of them touch the places alone, whatever the pool. For the same reason `Lent`, a
-// fact about pool and data together, stays in the clauses of the five that take both.
+// be no plainer: the clauses below name each one alone (`step_done .. source i payload.now tick`), only four of the
+// functions take all four, and four touch the places alone, whatever the pool. For the same reason `Lent`, a fact about
+// pool and data together, stays in the clauses of the five that take both.
 
 // The bytes of the pool for each place.
 const PLACE_ROOM: u32 = 72;
