@@ -1,11 +1,19 @@
 -- A number in bytes, least significant first, is read back from them.
 -- Assumes nothing.
-use Prim.Native.Nat.{ℕ, ◌+◌, ◌*◌, ◌/◌, ◌%◌}
+use Prim.Native.Nat.{ℕ, ◌+◌, ◌*◌, ◌/◌, ◌%◌, ◌≤◌}
 use mathlib.Core.Path.{◌≡◌, refl}
 use mathlib.Core.Bool.{Bool, true, false}
+use mathlib.Core.List.{List}
 use native.Mathlib.Omega.{arith}
 use lib.Dec.{eqb}
-use Rattle.buffer.specs.LittleEndian.{least_first, two_least_first, eight_least_first, bool_byte, number_in}
+use lib.ListN.{length, get_or}
+use borrow.Author.Tests.{le-leb}
+use Rattle.buffer.specs.BigEndian.{number_of}
+use Rattle.buffer.specs.LittleEndian.{least_first, two_least_first, eight_least_first, bool_byte, number_in, whole_number}
+
+pub whole-number : (bytes : List ℕ) (at : ℕ) → at + 4 ≤ length bytes →
+    whole_number bytes at ≡ number_of (get_or bytes (at + 3) 0) (get_or bytes (at + 2) 0) (get_or bytes (at + 1) 0) (get_or bytes at 0)
+whole-number bytes at h = rw (le-leb _ _ h) refl
 
 pub bool_back : (b : Bool) → eqb (bool_byte b) 1 ≡ b
 bool_back true = refl

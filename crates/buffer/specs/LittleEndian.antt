@@ -1,5 +1,6 @@
 -- Numbers as bytes, least significant first, and what such bytes stand for.
-use Rattle.std.specs.Prelude.{ℕ, ◌+◌, ◌*◌, ◌/◌, ◌%◌, Bool, true, false, List, [], ◌∷◌, eqb, take, drop, get_or, replicate}
+use Rattle.std.specs.Prelude.{ℕ, ◌+◌, ◌*◌, ◌/◌, ◌%◌, Bool, true, false, cond, List, [], ◌∷◌, eqb, leb, length, take, drop, get_or, replicate}
+use Rattle.buffer.specs.BigEndian.{number_of}
 
 -- A number of 32 bits as four bytes.
 abbrev pub least_first : ℕ → List ℕ
@@ -32,6 +33,13 @@ number_in (b ∷ bytes) = b + 256 * number_in bytes
 -- The number of n bytes from index `at` on, and the bool there.
 abbrev pub number_at : ℕ → ℕ → List ℕ → ℕ
 number_at at n bytes = number_in (take n (drop at bytes))
+
+-- That of the four bytes from an index on, and 0 where they are not all there.
+abbrev pub whole_number : List ℕ → ℕ → ℕ
+whole_number bytes at =
+    cond (leb (at + 4) (length bytes))
+    (number_of (get_or bytes (at + 3) 0) (get_or bytes (at + 2) 0) (get_or bytes (at + 1) 0) (get_or bytes at 0))
+    0
 
 abbrev pub bool_at : ℕ → List ℕ → Bool
 bool_at at bytes = eqb (get_or bytes at 0) 1

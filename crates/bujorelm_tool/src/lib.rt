@@ -183,7 +183,7 @@ fn put_outcome(outcome: Result<Outcome, CallError>, joined: &mut [u8; 24])
         Err(_) => put_joined(0, 0, 0, 0, joined),
         Ok(Outcome::Ignored) => put_joined(1, 0, 0, 0, joined),
         Ok(Outcome::NoAnswer) => put_joined(2, 0, 0, 0, joined),
-        Ok(Outcome::TransportRefusal(refusal)) => put_joined(3, refusal.code(), 0, 0, joined),
+        Ok(Outcome::TransportRefusal(refusal)) => put_joined(3, refusal as u16, 0, 0, joined),
         Ok(Outcome::InFrame) => put_joined(4, 0, 0, 0, joined),
         Ok(Outcome::InPool(from, end)) => put_joined(5, 0, from, end, joined),
     }

@@ -6,18 +6,17 @@ use mathlib.Core.List.{List, [], ◌∷◌, ◌++◌, append-nil, append_assoc}
 use native.Mathlib.Numerals.{add-one}
 use native.Mathlib.Nat.{add-zero, add_assoc}
 use native.Mathlib.Omega.{arith}
-use lib.ListN.{length, take, drop, get_or, replicate, length-append, length-replicate, drop_of_length-le, get_or-append}
-use lib.Seq.{drop-cons, take-length, get_or-append-add, take_all, drop-drop, take_at, drop_at, length-take-le}
+use lib.ListN.{length, take, drop, get_or, replicate, length-append, length-drop, length-replicate, take-append-drop, drop_of_length-le, get_or-append}
+use lib.Seq.{drop-cons, get_or-append-add, take_all, drop-drop, take_at, drop_at, length-take-le}
 use borrow.Author.Tests.{le-leb, lt-leb}
 use borrow.Rule.Slice.PartMut.{put_mid}
-use Rattle.std.proofs.lemmas.Slice.{put_mid-paste}
-use Rattle.buffer.specs.BigEndian.{number_of}
 use Rattle.buffer.specs.Buffer.{put_at, placed}
-use Rattle.buffer.proofs.Laws.{placed-fits, placed-not, put_one, put_two, drop-replicate}
+use Rattle.buffer.proofs.Laws.{placed-fits, placed-not, put_one, put_two, put_length, put_behind, drop-replicate}
 use Rattle.can_frame.specs.Frame.{frame_of}
 use Rattle.can_frame.specs.declared.Frame.{Frame}
-use Rattle.buffer.specs.LittleEndian.{least_first}
-use Rattle.can_frame_bytes.specs.Layout.{frame_with, frame_bytes, frame_in_bytes, FrameAgain, frame_placed}
+use Rattle.buffer.specs.LittleEndian.{least_first, whole_number}
+use Rattle.buffer.proofs.LeastLaws.{whole-number}
+use Rattle.can_frame_bytes.specs.Layout.{frame_with, frame_bytes, frame_in_bytes, whole_frame, FrameAgain, frame_placed}
 
 -- a frame lies in 16 bytes
 pub frame-length : (header : ℕ) (xs : List ℕ) → length xs ≤ 8 → length (frame_bytes (frame_of header xs)) ≡ 16
@@ -43,13 +42,38 @@ eight-from at xs h =
 abbrev padded : List ℕ → List ℕ
 padded xs = xs ++ replicate (8 - length xs) 0
 
+-- four of a list, one by one
+four-from : (at : ℕ) (xs : List ℕ) → at + 4 ≤ length xs →
+    get_or xs at 0 ∷ get_or xs (at + 1) 0 ∷ get_or xs (at + 2) 0 ∷ get_or xs (at + 3) 0 ∷ [] ≡ take 4 (drop at xs)
+four-from at xs h =
+    let next : (k : ℕ) → k < 4 → drop (at + k) xs ≡ get_or xs (at + k) 0 ∷ drop (at + (k + 1)) xs =
+    λ k below. drop-cons xs (at + k) 0 (omega arith) ∙ rw (← add-one (at + k), add_assoc) in
+    let first : drop at xs ≡ get_or xs at 0 ∷ drop (at + 1) xs = simp add-zero at (next 0 (omega arith)) in
+    rw (first, next 1 (omega arith), next 2 (omega arith), next 3 (omega arith))
+
 module _ (xs buffer : List ℕ) (size : length buffer ≡ 16) where
-  -- eight bytes are copied into theirs
-  pub data-eight : {part : List ℕ} → length xs ≡ 8 → part ≡ xs → put_mid 8 8 buffer part ≡ placed 8 (padded xs) buffer
-  unfolding put_at
-  data-eight h p =
+  -- eight bytes are put into theirs, four and four
+  pub data-eight : {half after : List ℕ} → length xs ≡ 8
+      → half ≡ placed 8 (get_or xs 0 0 ∷ get_or xs 1 0 ∷ get_or xs 2 0 ∷ get_or xs 3 0 ∷ []) buffer
+      → after ≡ placed 12 (get_or xs 4 0 ∷ get_or xs 5 0 ∷ get_or xs 6 0 ∷ get_or xs 7 0 ∷ []) half
+      → after ≡ placed 8 (padded xs) buffer
+  data-eight {half} h p q =
+      let first : List ℕ = take 4 xs in
+      let others : List ℕ = drop 4 xs in
       let z : 8 - length xs ≡ 0 = omega arith in
-      rw (z, append-nil, placed-fits 8 xs buffer (omega arith)) (put_mid-paste 8 8 buffer _ xs (length xs) p h refl ∙ rw take-length)
+      let few : length first ≡ 4 = length-take-le 4 xs (omega arith) in
+      let more : length others ≡ 4 = rw length-drop (omega arith) in
+      let room : length (put_at 8 first buffer) ≡ 16 = put_length 8 first buffer (omega arith) (omega arith) ∙ size in
+      let behind : 12 ≡ 8 + length first = omega arith in
+      let here : half ≡ put_at 8 first buffer =
+      p ∙ ap (λ l. placed 8 l buffer) (four-from 0 xs (omega arith)) ∙ placed-fits 8 first buffer (omega arith) in
+      q
+      ∙ ap (λ l. placed 12 l half) (four-from 4 xs (omega arith) ∙ take_all 4 others (omega arith))
+      ∙ ap (placed 12 others) here
+      ∙ placed-fits 12 others (put_at 8 first buffer) (omega arith)
+      ∙ ap (λ n. put_at n others (put_at 8 first buffer)) behind
+      ∙ put_behind 8 first others buffer (omega arith)
+      ∙ rw (z, append-nil, placed-fits 8 xs buffer (omega arith)) (ap (λ l. put_at 8 l buffer) (take-append-drop 4 xs))
 
   -- zeros, and up to eight bytes over their front
   pub data-few : {zeros after : List ℕ} → zeros ≡ placed 8 (replicate 8 0) buffer → length xs ≤ 8 → after ≡ placed 8 xs zeros → after ≡ placed 8 (padded xs) buffer
@@ -119,12 +143,17 @@ module _ (n header : ℕ) (xs before : List ℕ) where
 
 -- the frame that is made of three reads
 pub frame-read : (bytes : List ℕ) (at k : ℕ) {h l : ℕ} {eight : List ℕ} → at + 16 ≤ length bytes → k ≡ 8
-    → h ≡ number_of (get_or bytes (at + 3) 0) (get_or bytes (at + 2) 0) (get_or bytes (at + 1) 0) (get_or bytes at 0)
-    → l ≡ number_of (get_or bytes (at + 4 + 3) 0) (get_or bytes (at + 4 + 2) 0) (get_or bytes (at + 4 + 1) 0) (get_or bytes (at + 4) 0)
-    → eight ≡ take k (drop (at + 8) bytes)
-    → ◌≡◌ {A = Frame} (record { header = h; len = l; bytes = eight }) (frame_in_bytes bytes at)
+    → h ≡ whole_number bytes at → l ≡ whole_number bytes (at + 4) → eight ≡ take k (drop (at + 8) bytes)
+    → ◌≡◌ {A = Frame} (record { header = h; len = l; bytes = eight }) (whole_frame bytes at)
 unfolding frame_in_bytes
-frame-read bytes at k h e p q r = rw (p, q, r, e, eight-from (at + 8) bytes (omega arith)) (simp add_assoc)
+frame-read bytes at k h e p q r =
+    let header = p ∙ whole-number bytes at (omega arith) in
+    let len = q ∙ whole-number bytes (at + 4) (omega arith) in
+    rw (le-leb (at + 16) (length bytes) h, header, len, r, e, eight-from (at + 8) bytes (omega arith)) (simp add_assoc)
+
+-- where the 16 bytes are all there
+pub frame-whole : (bytes : List ℕ) (at : ℕ) → at + 16 ≤ length bytes → whole_frame bytes at ≡ frame_in_bytes bytes at
+frame-whole bytes at h = rw (le-leb (at + 16) (length bytes) h) refl
 
 -- eight bytes put over eight
 pub eight-put : (xs : List ℕ) {after : List ℕ} → length xs ≡ 8 → after ≡ placed 0 xs (replicate 8 0) → after ≡ xs

@@ -1,6 +1,6 @@
 -- How frames lie in lent bytes, 16 bytes for each: the struct `Frame` as a processor keeps it that stores the least
 -- significant byte first.
-use Rattle.std.specs.Prelude.{ℕ, ◌+◌, ◌*◌, ◌≡◌, cond, List, [], ◌∷◌, ◌++◌, leb, length, get_or}
+use Rattle.std.specs.Prelude.{ℕ, ◌+◌, ◌*◌, ◌≡◌, cond, List, [], ◌∷◌, ◌++◌, leb, length, get_or, replicate}
 use Rattle.buffer.specs.Buffer.{placed}
 use Rattle.buffer.specs.BigEndian.{number_of}
 use Rattle.buffer.specs.LittleEndian.{least_first}
@@ -24,6 +24,10 @@ frame_in_bytes bytes at = record {
   bytes = get_or bytes (at + 8) 0 ∷ get_or bytes (at + 9) 0 ∷ get_or bytes (at + 10) 0 ∷ get_or bytes (at + 11) 0
       ∷ get_or bytes (at + 12) 0 ∷ get_or bytes (at + 13) 0 ∷ get_or bytes (at + 14) 0 ∷ get_or bytes (at + 15) 0 ∷ [];
 }
+
+-- The same, and a frame without data and with header 0 where the 16 bytes are not all there.
+abbrev pub whole_frame : List ℕ → ℕ → Frame
+whole_frame bytes at = cond (leb (at + 16) (length bytes)) (frame_in_bytes bytes at) (frame_with 0 0 (replicate 8 0))
 
 -- A frame is found again where its bytes lie.
 abbrev pub FrameAgain : Type 0

@@ -5,7 +5,7 @@ ghost use Rattle.std.specs.Prelude.{◌≡◌, ◌++◌, ◌+◌, ◌-◌, ◌�
 ghost use Rattle.buffer.specs.Buffer.{placed};
 ghost use Rattle.buffer.specs.LittleEndian.{least_first};
 ghost use Rattle.can_frame.specs.Frame.{frame_of};
-ghost use Rattle.can_frame_bytes.specs.Layout.{frame_with, frame_bytes, frame_in_bytes, FrameAgain, frame_placed};
+ghost use Rattle.can_frame_bytes.specs.Layout.{frame_with, frame_bytes, frame_in_bytes, whole_frame, FrameAgain, frame_placed};
 
 use can_frame::Frame;
 
@@ -19,14 +19,16 @@ fn head_of(header: u32, len: u32) -> [u8; 8]
     [h0, h1, h2, h3, n0, n1, n2, n3]
 }
 
-// The data of a frame behind its head: behind them stand zeros. Eight bytes, which are the most common, are copied as a
-// number of bytes that is known here, and so are moved as words.
+// The data of a frame behind its head: behind them stand zeros. Eight bytes, which are the most common, are read four at a
+// time before one of the four is stored, and so are moved as two words. All eight at once would be more than a small
+// processor has registers for.
 fn put_data(frame: &mut [u8], part: &[u8])
     requires { (length frame.old ≡ 16) × (length part.now ≤ 8) }
     ensures { frame.new ≡ placed 8 (part.now ++ replicate (8 - length part.now) 0) frame.old }
 {
     if part.len() == 8 {
-        frame[8..16].copy_from_slice(part);
+        buffer::put(frame, 8, &[part[0], part[1], part[2], part[3]]);
+        buffer::put(frame, 12, &[part[4], part[5], part[6], part[7]]);
         return;
     }
     buffer::put(frame, 8, &[0u8; 8]);
@@ -64,12 +66,18 @@ pub fn bytes_of(header: u32, len: u32, bytes: [u8; 8]) -> [u8; 16]
     frame
 }
 
-// The frame in 16 bytes from index `at` on.
+// The frame in 16 bytes from index `at` on, or one without data and with header 0 where they are not all there.
 pub fn frame_at(bytes: &[u8], at: usize) -> Frame
-    requires { at + 16 ≤ length bytes.now }
-    ensures { result ≡ frame_in_bytes bytes.now at }
+    ensures { result ≡ whole_frame bytes.now at }
 {
     let mut data = [0u8; 8];
+    if bytes.len() < at || bytes.len() - at < 16 {
+        return Frame {
+            header: 0,
+            len: 0,
+            bytes: data,
+        };
+    }
     buffer::put(&mut data, 0, &bytes[at + 8..at + 16]);
     Frame {
         header: buffer::number_at(bytes, at),

@@ -77,16 +77,32 @@ fn blank(kind: u32, frame_count: usize) -> CallResult
 fn fill(res: &mut ResultBytes, r: CallResult)
     ensures { res.new ≡ result_bytes r }
 {
-    *res = [0; 20];
-    res[0..4].copy_from_slice(&r.kind.to_le_bytes());
-    res[4..6].copy_from_slice(&r.code.to_le_bytes());
-    res[6] = r.error;
-    res[7] = r.flags;
-    res[8..12].copy_from_slice(&r.changed_at.to_le_bytes());
-    res[12..16].copy_from_slice(&r.changed_len.to_le_bytes());
-    res[16] = r.reply_len;
-    res[17] = r.frame_count;
-    res[18] = r.position;
+    let [k0, k1, k2, k3] = r.kind.to_le_bytes();
+    let [c0, c1] = r.code.to_le_bytes();
+    let [a0, a1, a2, a3] = r.changed_at.to_le_bytes();
+    let [n0, n1, n2, n3] = r.changed_len.to_le_bytes();
+    *res = [
+        k0,
+        k1,
+        k2,
+        k3,
+        c0,
+        c1,
+        r.error,
+        r.flags,
+        a0,
+        a1,
+        a2,
+        a3,
+        n0,
+        n1,
+        n2,
+        n3,
+        r.reply_len,
+        r.frame_count,
+        r.position,
+        0,
+    ];
 }
 
 // A refusal because of an error of the caller.

@@ -1,7 +1,6 @@
 -- Laws of a call's numbers: those of a call have room in their bytes, and memory changed nowhere but in the range that they name.
 -- Assumes nothing.
 use Rattle.std.specs.Prelude.{Ok, Err}
-use Rattle.can_frame.specs.Refusal.{refusal_code}
 use Rattle.call_error.specs.CallErrors.{OrError}
 use Prim.Native.Nat.{ℕ, ◌≤◌, min}
 use mathlib.Core.Path.{◌≡◌, refl, ap, subst, ◌∙◌}
@@ -9,7 +8,7 @@ use mathlib.Core.List.{List}
 use native.Mathlib.Omega.{arith}
 use Rattle.exec_store.specs.Storing.{OnlyWithin}
 use Rattle.exec_spec.specs.Access.{Changes}
-use Rattle.reply_answer.specs.Answers.{code_of, SmallAnswer}
+use Rattle.reply_answer.specs.Answers.{SmallAnswer}
 use Rattle.reply_answer.specs.declared.Answer.{Answer}
 use Rattle.reply_answer.specs.declared.Answer.TheVariants as answer
 use Rattle.node_spec.specs.DatagramCall.{SmallHandled, HandledChanges}
@@ -31,7 +30,7 @@ has_room kind error position flags code index n reply frames a b c d =
     rw (i, j, k, l)
 
 answer-room : (a : Answer) (frames : ℕ) → SmallAnswer a → frames ≤ 10 → in_bytes (answer_numbers a frames) ≡ answer_numbers a frames
-answer-room (answer.Rejected rejection) frames s h = has_room 4 0 no_position 0 (code_of rejection) 0 0 0 frames (omega arith) (omega arith) (omega arith) h
+answer-room (answer.Rejected code) frames s h = has_room 4 0 no_position 0 code 0 0 0 frames (omega arith) (omega arith) (omega arith) h
 answer-room (answer.Written index n) frames s h = has_room 5 0 no_position 0 0 index n 0 frames (omega (arith, s.0)) (omega (arith, s.1)) (omega arith) h
 answer-room answer.UpdateComplete frames s h = has_room 7 0 no_position 0 0 0 0 0 frames (omega arith) (omega arith) (omega arith) h
 answer-room (answer.Replied n) frames s h = has_room 6 0 no_position 0x80 0 0 0 n frames (omega arith) (omega arith) s h
@@ -44,7 +43,7 @@ frame-room : (r : OrError FrameAnswer) (frames : ℕ) → SmallFrame r → frame
 frame-room (Err error) frames s h = has_room 0 _ _ 0 0 0 0 0 frames (omega arith) (omega arith) (omega arith) h
 frame-room (Ok frame.Ignored) frames s h = has_room 1 0 no_position 0 0 0 0 0 frames (omega arith) (omega arith) (omega arith) h
 frame-room (Ok frame.Nothing) frames s h = has_room 2 0 no_position 0 0 0 0 0 frames (omega arith) (omega arith) (omega arith) h
-frame-room (Ok (frame.TransportRefusal refusal)) frames s h = has_room 3 0 no_position 0 (refusal_code refusal) 0 0 0 frames (omega arith) (omega arith) (omega arith) h
+frame-room (Ok (frame.TransportRefusal code)) frames s h = has_room 3 0 no_position 0 code 0 0 0 frames (omega arith) (omega arith) (omega arith) h
 frame-room (Ok (frame.Answered a)) frames s h = answer-room a frames s h
 
 -- ---- what changed
@@ -55,7 +54,7 @@ module _ (old new : List ℕ) where
   none-changed e = rw e (record { size = refl; before = refl; behind = refl })
 
   answer-within : (a : Answer) (frames : ℕ) → Changes a old new → OnlyWithin (answer_numbers a frames).changed_at (answer_numbers a frames).changed_len old new
-  answer-within (answer.Rejected rejection) frames e = none-changed e
+  answer-within (answer.Rejected code) frames e = none-changed e
   answer-within (answer.Written index n) frames e = e
   answer-within answer.UpdateComplete frames e = none-changed e
   answer-within (answer.Replied n) frames e = none-changed e
@@ -68,7 +67,7 @@ module _ (old new : List ℕ) where
   frame-within (Err error) frames e = none-changed e
   frame-within (Ok frame.Ignored) frames e = none-changed e
   frame-within (Ok frame.Nothing) frames e = none-changed e
-  frame-within (Ok (frame.TransportRefusal refusal)) frames e = none-changed e
+  frame-within (Ok (frame.TransportRefusal code)) frames e = none-changed e
   frame-within (Ok (frame.Answered a)) frames e = answer-within a frames e
 
 -- ---- what the code gives is what its answer was proved to be

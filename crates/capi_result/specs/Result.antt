@@ -1,9 +1,7 @@
 -- What comes of a call as numbers, for a caller in C.
 use Rattle.std.specs.Prelude.{ℕ, Option, Some, None, Ok, Err}
-use Rattle.can_frame.specs.Refusal.{refusal_code}
 use Rattle.call_error.specs.CallErrors.{refusal_of, OrError}
 use Rattle.call_error.specs.declared.CallError.{CallError}
-use Rattle.reply_answer.specs.Answers.{code_of}
 use Rattle.reply_answer.specs.declared.Answer.{Answer}
 use Rattle.reply_answer.specs.declared.Answer.TheVariants as answer
 use Rattle.node_spec.specs.declared.FrameAnswer.{FrameAnswer}
@@ -23,7 +21,7 @@ error_numbers error frames = refusal_numbers (refusal_of error).number (position
 -- Rejected with its code; Received OK 0x00 to a write of n bytes from an index of memory on; Received OK 0x80 and a
 -- reply of n bytes; Received OK 0x00 to Update Complete.
 abbrev pub answer_numbers : Answer → ℕ → CallResult
-answer_numbers (answer.Rejected rejection) frames = numbers kind_rejected 0 (code_of rejection) 0 0 0 frames
+answer_numbers (answer.Rejected code) frames = numbers kind_rejected 0 code 0 0 0 frames
 answer_numbers (answer.Written index n) frames = numbers kind_written 0x00 0 index n 0 frames
 answer_numbers (answer.Replied n) frames = numbers kind_replied 0x80 0 0 0 n frames
 answer_numbers answer.UpdateComplete frames = numbers kind_update_complete 0x00 0 0 0 0 frames
@@ -37,5 +35,5 @@ abbrev pub frame_numbers : OrError FrameAnswer → ℕ → CallResult
 frame_numbers (Err error) frames = error_numbers error frames
 frame_numbers (Ok frame.Ignored) frames = numbers kind_ignored 0 0 0 0 0 frames
 frame_numbers (Ok frame.Nothing) frames = numbers kind_joined 0 0 0 0 0 frames
-frame_numbers (Ok (frame.TransportRefusal refusal)) frames = numbers kind_transport_refusal 0 (refusal_code refusal) 0 0 0 frames
+frame_numbers (Ok (frame.TransportRefusal code)) frames = numbers kind_transport_refusal 0 code 0 0 0 frames
 frame_numbers (Ok (frame.Answered a)) frames = answer_numbers a frames

@@ -29,8 +29,7 @@ fn of_answer(answer: Answer, frame_count: usize, res: &mut ResultBytes)
     ensures { res.new ≡ result_bytes (in_bytes (answer_numbers answer frame_count)) }
 {
     match answer {
-        Answer::Rejected(rejection) => {
-            let code = reply_answer::code_of(rejection);
+        Answer::Rejected(code) => {
             capi_numbers::of_kind(Kind::Rejected as u32, 0, code, frame_count, res)
         }
         Answer::Written(index, n) => capi_numbers::of_write(index, n, frame_count, res),
@@ -65,14 +64,8 @@ pub fn of_frame(answer: Result<FrameAnswer, CallError>, frame_count: usize, res:
         Ok(FrameAnswer::Nothing) => {
             capi_numbers::of_kind(Kind::Joined as u32, 0, 0, frame_count, res)
         }
-        Ok(FrameAnswer::TransportRefusal(refusal)) => {
-            capi_numbers::of_kind(
-                Kind::TransportRefusal as u32,
-                0,
-                refusal.code(),
-                frame_count,
-                res,
-            )
+        Ok(FrameAnswer::TransportRefusal(code)) => {
+            capi_numbers::of_kind(Kind::TransportRefusal as u32, 0, code, frame_count, res)
         }
         Ok(FrameAnswer::Answered(done)) => of_answer(done, frame_count, res),
     }

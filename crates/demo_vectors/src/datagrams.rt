@@ -68,8 +68,8 @@ fn write_answer<W: fmt::Write>(
     reply: &[u8],
 ) -> fmt::Result {
     let rest = match answer {
-        Answer::Rejected(rejection) => {
-            write!(f, "Rejected {:04X}", reply_answer::code_of(rejection))?;
+        Answer::Rejected(code) => {
+            write!(f, "Rejected {code:04X}")?;
             reply
         }
         Answer::Written(_, _) | Answer::UpdateComplete => {

@@ -28,7 +28,7 @@ pub fn handle(
     ensures leaves { AllLeave }
 {
     match cmd_decode::decode(datagram) {
-        Err(rejection) => Answer::Rejected(rejection),
+        Err(rejection) => Answer::Rejected(reply_answer::code_of(rejection)),
         Ok((form, command)) => perform::perform(
             board, memory, registers, form, command, datagram, out,
         ),

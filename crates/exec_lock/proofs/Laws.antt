@@ -1,14 +1,15 @@
 -- Laws of a zero ID, and of the lock memory after a test-and-set.
 -- Assumes nothing.
-use Rattle.std.proofs.Common.{ℕ, ◌≡◌, List, length, eqb, refl, ◌&&◌}
+use Rattle.std.proofs.Common.{ℕ, ◌≡◌, List, [], ◌∷◌, length, eqb, refl, ap, ◌&&◌}
 use borrow.Author.Tests.{eq-eqb, ne_eqb}
-use Rattle.std.specs.List.{list_all}
-use Rattle.std.proofs.lemmas.List.Recursion.{same_from_clauses}
+use lib.ListN.{replicate}
+use lib.Pointwise.{pointwise}
 use Rattle.exec_lock.specs.Lock.{all_zero, lock_after, test_and_set}
 
-pub zero-all : (a : List ℕ) → list_all (λ b. eqb b 0) a ≡ all_zero a
+pub zero-all : (a : List ℕ) → pointwise eqb a (replicate (length a) 0) ≡ all_zero a
 unfolding all_zero
-zero-all a = same_from_clauses (list_all (λ b. eqb b 0)) all_zero (λ b r. eqb b 0 && r) refl (λ _ _. refl) (λ _ _. refl) a
+zero-all [] = refl
+zero-all (b ∷ more) = ap (λ r. eqb b 0 && r) (zero-all more)
 
 module _ (held id : List ℕ) where
   pub other_length : (length id ≡ 6 → ⊥) → held ≡ test_and_set held id

@@ -14,7 +14,7 @@ struct Lock {
 fn is_all_zero(bytes: [u8; 6]) -> bool
     ensures { result ≡ all_zero bytes }
 {
-    bytes.iter().all(|b| *b == 0)
+    bytes == [0; 6]
 }
 
 // A lock that is lent, after an ID was sent: a zero ID releases it, whoever sends; another is stored only over zero.
@@ -39,8 +39,8 @@ fn reserved(held: [u8; 6], id: [u8; 6]) -> [u8; 6]
 pub fn test_and_set(held: [u8; 6], id: &[u8]) -> [u8; 6]
     ensures { result ≡ test_and_set held id.now }
 {
-    match <[u8; 6]>::try_from(id) {
-        Ok(sent) => reserved(held, sent),
-        Err(_) => held,
+    match *id {
+        [a, b, c, d, e, f] => reserved(held, [a, b, c, d, e, f]),
+        _ => held,
     }
 }

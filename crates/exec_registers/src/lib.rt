@@ -21,9 +21,8 @@ pub fn new_registers() -> Registers
 pub fn lock_in(registers: &Registers) -> [u8; 6]
     ensures { result ≡ (registers_in registers.now).lock }
 {
-    let mut lock = [0u8; 6];
-    lock.copy_from_slice(&registers[0..6]);
-    lock
+    let [a, b, c, d, e, f] = *registers;
+    [a, b, c, d, e, f]
 }
 
 // Puts another lock memory; every other field keeps its bytes.

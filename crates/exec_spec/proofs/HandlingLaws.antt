@@ -92,7 +92,7 @@ request-handled x c d {form} {q} e p =
 
 -- a buffer of 72 bytes takes every such reply whole
 pub whole : (r : Result) (buffer : List ℕ) → Short r → 72 ≤ length buffer → fitted r buffer ≡ r
-whole (datagram_rejected rejection) buffer s h = refl
+whole (datagram_rejected code) buffer s h = refl
 whole (written index n) buffer s h = refl
 whole update_completed buffer s h = refl
 whole (received_ok_reply reply) buffer s h = rw (le-leb (length reply) (length buffer) (omega (arith, s, h)))

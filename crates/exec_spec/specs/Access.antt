@@ -39,7 +39,7 @@ memory_after store memory address (Ok s) = store (index_of s address) memory
 -- Memory, which was `old` and is `new`, by the answer: a write changes bytes of its range alone, and nothing else
 -- changes memory.
 abbrev pub Changes : Answer → List ℕ → List ℕ → Type 0
-Changes (Rejected rejection) old new = new ≡ old
+Changes (Rejected code) old new = new ≡ old
 Changes (Written index n) old new = OnlyWithin index n old new
 Changes UpdateComplete old new = new ≡ old
 Changes (Replied n) old new = new ≡ old

@@ -3,7 +3,7 @@
 use Rattle.std.specs.Prelude.{ℕ, ◌+◌, ◌≤◌, ◌≡◌, List, length, Ok}
 use Rattle.call_error.specs.CallErrors.{description_check}
 use Rattle.cmd_decode.specs.Decoding.{Reading, rejected, request, decode}
-use Rattle.reply_answer.specs.Answers.{Result, datagram_rejected, written, update_completed, received_ok_reply, answer_of, Agrees}
+use Rattle.reply_answer.specs.Answers.{code_of, Result, datagram_rejected, written, update_completed, received_ok_reply, answer_of, Agrees}
 use Rattle.reply_answer.specs.declared.Answer.{Answer}
 use Rattle.exec_spec.specs.Access.{Changes}
 use Rattle.exec_spec.specs.Performing.{sent}
@@ -12,7 +12,7 @@ unfoldable pub use Rattle.exec_spec.specs.Performing.{perform}
 
 -- A datagram handled whole, with the bytes of the reply. A rejected one leaves everything as it was.
 abbrev pub answer_reading : Fixed → Contents → Reading → Outcome
-answer_reading x c (rejected rejection) = outcome (datagram_rejected rejection) c
+answer_reading x c (rejected rejection) = outcome (datagram_rejected (code_of rejection)) c
 answer_reading x c (request form q) = sent (perform x c form q)
 
 unfoldable pub handle : Fixed → Contents → List ℕ → Outcome
@@ -22,7 +22,7 @@ handle x c d = answer_reading x c (decode d)
 
 -- What is written lies in a memory of m bytes.
 abbrev pub WrittenInside : ℕ → Result → Type 0
-WrittenInside m (datagram_rejected rejection) = Unit {0}
+WrittenInside m (datagram_rejected code) = Unit {0}
 WrittenInside m (written index n) = index + n ≤ m
 WrittenInside m update_completed = Unit {0}
 WrittenInside m (received_ok_reply reply) = Unit {0}
@@ -41,7 +41,7 @@ HandleBounds = (x : Fixed) (c : Contents) (d : List ℕ) → Bounds x c (handle 
 
 -- "No reply is over 72 bytes", and a write has "1–64 data bytes".
 abbrev pub Short : Result → Type 0
-Short (datagram_rejected rejection) = Unit {0}
+Short (datagram_rejected code) = Unit {0}
 Short (written index n) = n ≤ 64
 Short update_completed = Unit {0}
 Short (received_ok_reply reply) = length reply ≤ 72

@@ -24,7 +24,7 @@ use Rattle.rx_spec.specs.Order.{caller_error, ignored_frame, nothing, transport_
 use Rattle.tx_cut_spec.specs.Cutting.{aliases, first, single, rest_frames, frames_of, cut_frames}
 use Rattle.tx_transport.specs.Transport.{transport_reply, received_ok, rejected_with}
 use Rattle.tx_cut_spec.proofs.CutLaws.{by-eights, rest-last, rest_more}
-use Rattle.reply_answer.specs.Answers.{code_of, Result, datagram_rejected, written, update_completed, received_ok_reply}
+use Rattle.reply_answer.specs.Answers.{Result, datagram_rejected, written, update_completed, received_ok_reply}
 use Rattle.node_send.specs.Sending.{frames_to_send, sent_for}
 use Rattle.gridconnect_print.specs.Line.{end_of, Printed}
 use Rattle.gridconnect_frames.specs.Printing.{frames_from, frames_text, when_room}
@@ -74,7 +74,7 @@ sent-full board tool (caller_error error) = tt
 sent-full board tool ignored_frame = tt
 sent-full board tool nothing = tt
 sent-full board tool (transport_refusal refusal) = rejected-full board tool (refusal_code refusal)
-sent-full board tool (handled (datagram_rejected rejection)) = append_full (rejected_with board tool (code_of rejection)) [] (rejected-full board tool (code_of rejection)) tt
+sent-full board tool (handled (datagram_rejected code)) = append_full (rejected_with board tool code) [] (rejected-full board tool code) tt
 sent-full board tool (handled (written index n)) = append_full (received_ok board tool 0x00) [] (ok_full board tool 0x00) tt
 sent-full board tool (handled update_completed) = append_full (received_ok board tool 0x00) [] (ok_full board tool 0x00) tt
 sent-full board tool (handled (received_ok_reply reply)) =

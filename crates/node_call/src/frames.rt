@@ -42,7 +42,7 @@ pub fn answer_outcome(
     match outcome {
         Outcome::Ignored => FrameAnswer::Ignored,
         Outcome::NoAnswer => FrameAnswer::Nothing,
-        Outcome::TransportRefusal(refusal) => FrameAnswer::TransportRefusal(refusal),
+        Outcome::TransportRefusal(refusal) => FrameAnswer::TransportRefusal(refusal.code()),
         Outcome::InFrame => answer_datagram(board, memory, registers, payload, reply),
         Outcome::InPool(from, end) => answer_datagram(
             board,

@@ -20,8 +20,7 @@ use Rattle.rx_spec.specs.Order.{caller_error, ignored_frame, nothing, transport_
 use Rattle.tx_cut_spec.specs.Cutting.{aliases, cut_frames}
 use Rattle.tx_transport.specs.Transport.{received_ok, rejected_with, transport_reply}
 use Rattle.tx_cut_spec.proofs.CutLaws.{frames-few}
-use Rattle.reply_answer.specs.Answers.{code_of, Result, datagram_rejected, written, update_completed, received_ok_reply}
-use Rattle.reply_answer.specs.declared.Rejection.{Rejection}
+use Rattle.reply_answer.specs.Answers.{Result, datagram_rejected, written, update_completed, received_ok_reply}
 use Rattle.reply_answer.specs.declared.Answer.{Answer}
 use Rattle.reply_answer.specs.declared.Answer.TheVariants.{Rejected, Written, UpdateComplete, Replied}
 use Rattle.exec_spec.specs.Handling.{Fixed, Contents}
@@ -69,10 +68,10 @@ module _ {before after : List ℕ} {r : ℕ} where
       rw (append-nil (received_ok board tool 0x00)) (record { count = m.0; bytes = m.1; few = omega arith })
 
   module _ (board tool : ℕ) (buffer : List ℕ) {answer : Answer} where
-    pub answer-rejected : {rejection : Rejection} {code : ℕ} → answer ≡ Rejected rejection → code ≡ code_of rejection
+    pub answer-rejected : {code : ℕ} → answer ≡ Rejected code
         → (r ≡ length (rejected_with board tool code)) × (after ≡ over (frames_bytes (rejected_with board tool code)) before)
         → Made (answer_frames board tool answer buffer) r before after
-    answer-rejected {rejection} {code} e k m = rw (e, ← k, append-nil (rejected_with board tool code)) (made_rejected board tool code m)
+    answer-rejected {code} e m = rw (e, append-nil (rejected_with board tool code)) (made_rejected board tool code m)
 
     pub answer-written : {index n : ℕ} → answer ≡ Written index n
         → (r ≡ length (received_ok board tool 0x00)) × (after ≡ over (frames_bytes (received_ok board tool 0x00)) before)
@@ -103,7 +102,7 @@ module _ (board tool : ℕ) (buffer : List ℕ) where
   sent-from ignored_frame = refl
   sent-from nothing = refl
   sent-from (transport_refusal refusal) = refl
-  sent-from (handled (datagram_rejected rejection)) = refl
+  sent-from (handled (datagram_rejected code)) = refl
   sent-from (handled (written index n)) = refl
   sent-from (handled update_completed) = refl
   sent-from (handled (received_ok_reply reply)) =

@@ -5,7 +5,6 @@ use Rattle.std.specs.Prelude.{ℕ, ◌≤◌, ◌≡◌, List, [], ◌∷◌, �
 use Rattle.buffer.specs.Buffer.{over}
 use Rattle.buffer.specs.Lent.{LentBytes, GivenBytes, before, after}
 use Rattle.call_error.specs.declared.CallError.{CallError}
-use Rattle.can_frame.specs.Refusal.{refusal_code}
 use Rattle.can_frame.specs.declared.Frame.{Frame}
 use Rattle.can_frame.specs.Frame.{source_of}
 use Rattle.can_frame_bytes.specs.Layout.{frames_bytes}
@@ -33,7 +32,7 @@ transport_frames board tool (rejected_code code) = rejected_with board tool code
 
 -- "then the reply datagram's frames": of the answer that has a reply, which is in front of the buffer.
 abbrev pub reply_frames : ℕ → ℕ → Answer → List ℕ → List Frame
-reply_frames board tool (Rejected rejection) buffer = []
+reply_frames board tool (Rejected code) buffer = []
 reply_frames board tool (Written index n) buffer = []
 reply_frames board tool UpdateComplete buffer = []
 reply_frames board tool (Replied n) buffer = cut_frames (take n buffer) tool board
@@ -49,7 +48,7 @@ unfoldable pub frames_to_send : ℕ → ℕ → OrError FrameAnswer → List ℕ
 frames_to_send board tool (Err error) buffer = []
 frames_to_send board tool (Ok Ignored) buffer = []
 frames_to_send board tool (Ok Nothing) buffer = []
-frames_to_send board tool (Ok (TransportRefusal refusal)) buffer = transport_frames board tool (rejected_code (refusal_code refusal))
+frames_to_send board tool (Ok (TransportRefusal code)) buffer = transport_frames board tool (rejected_code code)
 frames_to_send board tool (Ok (Answered a)) buffer = answer_frames board tool a buffer
 
 -- Frames made in lent bytes: r is their number, and the bytes behind them stay as they were.
@@ -68,7 +67,7 @@ reply_of (caller_error error) = []
 reply_of ignored_frame = []
 reply_of nothing = []
 reply_of (transport_refusal refusal) = []
-reply_of (handled (datagram_rejected rejection)) = []
+reply_of (handled (datagram_rejected code)) = []
 reply_of (handled (written index n)) = []
 reply_of (handled update_completed) = []
 reply_of (handled (received_ok_reply reply)) = reply

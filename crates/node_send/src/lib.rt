@@ -12,9 +12,7 @@ fn send_answer(answer: Answer, reply: &[u8], board: u16, tool: u16, frames: &mut
     ensures { Made (answer_frames board tool answer reply.now) result frames.old frames.new }
 {
     match answer {
-        Answer::Rejected(rejection) => {
-            tx_transport::rejected(board, tool, reply_answer::code_of(rejection), frames)
-        }
+        Answer::Rejected(code) => tx_transport::rejected(board, tool, code, frames),
         Answer::Written(_, _) => tx_transport::received_ok(board, tool, 0x00, frames),
         Answer::UpdateComplete => tx_transport::received_ok(board, tool, 0x00, frames),
         Answer::Replied(length) => {
@@ -39,12 +37,9 @@ pub fn frames_to_send(
         Err(_) => 0,
         Ok(FrameAnswer::Ignored) => 0,
         Ok(FrameAnswer::Nothing) => 0,
-        Ok(FrameAnswer::TransportRefusal(refusal)) => tx_transport::rejected(
-            board,
-            tool,
-            refusal.code(),
-            frames,
-        ),
+        Ok(FrameAnswer::TransportRefusal(code)) => {
+            tx_transport::rejected(board, tool, code, frames)
+        }
         Ok(FrameAnswer::Answered(done)) => send_answer(done, reply, board, tool, frames),
     }
 }

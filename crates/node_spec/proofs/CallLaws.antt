@@ -44,7 +44,7 @@ use Rattle.std.specs.Prelude.{Ok, Err}
 -- ---- memory keeps its size
 
 changes-size : (a : Answer) (old new : List ℕ) → Changes a old new → length new ≡ length old
-changes-size (Rejected rejection) old new e = ap length e
+changes-size (Rejected code) old new e = ap length e
 changes-size (Written index n) old new w = w.size
 changes-size UpdateComplete old new e = ap length e
 changes-size (Replied n) old new e = ap length e

@@ -55,7 +55,7 @@ datagram_check_lem x c buffer = go (earlier_check x c buffer)
 -- ---- the numbers of an answer
 
 small-in : (r : Result) (m : ℕ) → Short r → WrittenInside m r → m ≤ 65536 → SmallAnswer (answer_of r)
-small-in (datagram_rejected rejection) m s i h = tt
+small-in (datagram_rejected code) m s i h = tt
 small-in (written index n) m s i h = (omega arith, s)
 small-in update_completed m s i h = tt
 small-in (received_ok_reply reply) m s i h = s

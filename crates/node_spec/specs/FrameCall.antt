@@ -4,6 +4,7 @@ use Rattle.buffer.specs.Lent.{LentBytes, GivenBytes, before, after, given}
 use Rattle.call_error.specs.CallErrors.{unless_failed, OrError}
 use Rattle.call_error.specs.declared.CallError.{CallError}
 use Rattle.can_frame.specs.Frame.{CanFrame, can_frame}
+use Rattle.can_frame.specs.Refusal.{refusal_code}
 use Rattle.rx_place_spec.specs.State.{State}
 use Rattle.rx_spec.specs.Order as order
 use Rattle.rx_spec.specs.Order.{FrameResult, frame_result, caller_error, ignored_frame, nothing, transport_refusal, handled, answer_event, handle_frame}
@@ -39,7 +40,7 @@ abbrev pub frame_answer_of : order.CallAnswer CallError Result → OrError Frame
 frame_answer_of (caller_error error) = Err error
 frame_answer_of ignored_frame = Ok answer.Ignored
 frame_answer_of nothing = Ok answer.Nothing
-frame_answer_of (transport_refusal refusal) = Ok (answer.TransportRefusal refusal)
+frame_answer_of (transport_refusal refusal) = Ok (answer.TransportRefusal (refusal_code refusal))
 frame_answer_of (handled r) = Ok (answer.Answered (answer_of r))
 
 -- The reply buffer afterwards: untouched but for a reply.
@@ -83,7 +84,7 @@ abbrev pub SmallFrame : OrError FrameAnswer → Type 0
 SmallFrame (Err error) = Unit {0}
 SmallFrame (Ok answer.Ignored) = Unit {0}
 SmallFrame (Ok answer.Nothing) = Unit {0}
-SmallFrame (Ok (answer.TransportRefusal refusal)) = Unit {0}
+SmallFrame (Ok (answer.TransportRefusal code)) = Unit {0}
 SmallFrame (Ok (answer.Answered a)) = SmallAnswer a
 
 -- Memory, which was `old` and is `new`, by the answer: only a finished datagram changes it, in the bytes that its
@@ -92,7 +93,7 @@ abbrev pub FrameChanges : OrError FrameAnswer → List ℕ → List ℕ → Type
 FrameChanges (Err error) old new = new ≡ old
 FrameChanges (Ok answer.Ignored) old new = new ≡ old
 FrameChanges (Ok answer.Nothing) old new = new ≡ old
-FrameChanges (Ok (answer.TransportRefusal refusal)) old new = new ≡ old
+FrameChanges (Ok (answer.TransportRefusal code)) old new = new ≡ old
 FrameChanges (Ok (answer.Answered a)) old new = Changes a old new
 
 -- The bytes of the places, which were `before` and are `after`, and the pool are what x says. A place that is changed

@@ -16,8 +16,8 @@ code_of UnknownDatagramType = 0x1042
 
 -- How a datagram is answered. A reply is given by an R, which is its fields or its bytes.
 pub data Answered (R : Type 0) : Type 0 where
-  -- Rejected, with the reason
-  datagram_rejected : Rejection → Answered R
+  -- Rejected with a code
+  datagram_rejected : ℕ → Answered R
   -- a write or a masked write, of n bytes from an index of memory on: "Success is Received OK 0x00 and nothing more"
   written : ℕ → ℕ → Answered R
   -- "0xA8, two bytes: Received OK 0x00"
@@ -35,21 +35,21 @@ pub data Transport : Type 0 where
   rejected_code : ℕ → Transport
 
 abbrev pub transport_of : Answer → Transport
-transport_of (Rejected rejection) = rejected_code (code_of rejection)
+transport_of (Rejected code) = rejected_code code
 transport_of (Written index n) = ok_flags 0x00
 transport_of UpdateComplete = ok_flags 0x00
 transport_of (Replied length) = ok_flags 0x80
 
 -- A result as an answer of the code.
 abbrev pub answer_of : Result → Answer
-answer_of (datagram_rejected rejection) = Rejected rejection
+answer_of (datagram_rejected code) = Rejected code
 answer_of (written index n) = Written index n
 answer_of update_completed = UpdateComplete
 answer_of (received_ok_reply reply) = Replied (length reply)
 
 -- The reply buffer afterwards: "bytes past its length, and the whole buffer where there is none, are untouched".
 abbrev pub buffer_of : Result → List ℕ → List ℕ
-buffer_of (datagram_rejected rejection) buffer = buffer
+buffer_of (datagram_rejected code) buffer = buffer
 buffer_of (written index n) buffer = buffer
 buffer_of update_completed buffer = buffer
 buffer_of (received_ok_reply reply) buffer = over reply buffer
@@ -60,7 +60,7 @@ abbrev pub fitting : List ℕ → List ℕ → List ℕ
 fitting reply buffer = cond (leb (length reply) (length buffer)) reply []
 
 abbrev pub fitted : Result → List ℕ → Result
-fitted (datagram_rejected rejection) buffer = datagram_rejected rejection
+fitted (datagram_rejected code) buffer = datagram_rejected code
 fitted (written index n) buffer = written index n
 fitted update_completed buffer = update_completed
 fitted (received_ok_reply reply) buffer = received_ok_reply (fitting reply buffer)
@@ -73,7 +73,7 @@ pub record Agrees (result : Result) (r : Answer) (before after : List ℕ) : Typ
 -- How large the numbers of an answer are, where the caller made no error: what is written lies in memory, which
 -- by B12 has at most 65,536 bytes, and is at most 64 bytes; and "No reply is over 72 bytes."
 abbrev pub SmallAnswer : Answer → Type 0
-SmallAnswer (Rejected rejection) = Unit {0}
+SmallAnswer (Rejected code) = Unit {0}
 SmallAnswer (Written index n) = (index + n ≤ 65536) × (n ≤ 64)
 SmallAnswer UpdateComplete = Unit {0}
 SmallAnswer (Replied n) = n ≤ 72

@@ -24,12 +24,12 @@ pub fn code_of(rejection: Rejection) -> u16
     }
 }
 
-// The answer to a datagram: Rejected, with the reason; Received OK 0x00 to a write, which changed so many bytes of
+// The answer to a datagram: Rejected with a code; Received OK 0x00 to a write, which changed so many bytes of
 // memory from an index on; Received OK 0x00 to Update Complete; or Received OK 0x80 and a reply of that many bytes in
-// the buffer.
+// the buffer. The code is a number: what sends an answer, or hands it to C, takes any code.
 #[derive(Clone, Copy)]
 pub enum Answer {
-    Rejected(Rejection),
+    Rejected(u16),
     Written(usize, usize),
     UpdateComplete,
     Replied(usize),

@@ -24,7 +24,7 @@ lock_reply = locked
 
 -- An answer whose reply is given by its fields, with the bytes of the reply.
 abbrev pub in_bytes : Answered Reply → Result
-in_bytes (datagram_rejected rejection) = datagram_rejected rejection
+in_bytes (datagram_rejected code) = datagram_rejected code
 in_bytes (written index n) = written index n
 in_bytes update_completed = update_completed
 in_bytes (received_ok_reply reply) = received_ok_reply (reply_bytes reply)

@@ -32,7 +32,7 @@ pub fn find_space(spaces: &[u8], number: u8) -> Found
 {
     for row in spaces.chunks_exact(16) {
         if row[0] == number {
-            return Found::Described(space_table::space_in(row));
+            return Found::Described(space_table::space_at(row, 0));
         }
     }
     left_out(number)

@@ -6,8 +6,8 @@ use mathlib.Core.List.{List, [], ◌∷◌, ◌++◌}
 use native.Mathlib.Numerals.{add-one}
 use native.Mathlib.Nat.{add-zero, add_assoc}
 use native.Mathlib.Omega.{arith}
-use lib.ListN.{length, drop, get_or, get_or-eq_default, get_or-append, length-append}
-use Rattle.std.proofs.lemmas.List.{get_or-drop, get_or-append-add}
+use lib.ListN.{length, take, drop, get_or, get_or-eq_default, get_or-append, length-append}
+use Rattle.std.proofs.lemmas.List.{get_or-drop, get_or-take, get_or-append-add}
 use Rattle.space_table.specs.Table.{number_at, row_at, spaces_from, spaces_in, space_at, no_space}
 use Rattle.space_table.specs.declared.Space.{Space}
 
@@ -26,8 +26,11 @@ row-same s t i j f =
     λ at h. number-same s t (16 * i + at) (16 * j + at) (λ k below. rw (add_assoc, add_assoc) (f (at + k) (omega arith))) in
     rw (z, f 1 (omega arith), f 2 (omega arith), n 4 (omega arith), n 8 (omega arith), n 12 (omega arith))
 
-pub row-drop : (t : List ℕ) (i : ℕ) → row_at (drop (16 * i) t) 0 ≡ row_at t i
+row-drop : (t : List ℕ) (i : ℕ) → row_at (drop (16 * i) t) 0 ≡ row_at t i
 row-drop t i = row-same (drop (16 * i) t) t 0 i (λ k h. get_or-drop (16 * i) t (0 + k) 0 ∙ ap (λ n. get_or t n 0) (omega arith))
+
+pub row-slice : (t : List ℕ) (i n : ℕ) → n ≡ 16 → row_at (take n (drop (16 * i) t)) 0 ≡ row_at t i
+row-slice t i n e = rw e (row-same (take 16 (drop (16 * i) t)) (drop (16 * i) t) 0 0 (λ k h. get_or-take 16 (drop (16 * i) t) (0 + k) 0 (omega arith)) ∙ row-drop t i)
 
 module _ (x t : List ℕ) (e : length x ≡ 16) where
   row-first : row_at (x ++ t) 0 ≡ row_at x 0

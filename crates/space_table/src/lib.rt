@@ -29,7 +29,7 @@ pub fn space_at(table: &[u8], i: usize) -> Space
     ensures { result ≡ space_at table.now i }
 {
     if i < table.len() / 16 {
-        return space_in(&table[16 * i..]);
+        return space_in(&table[16 * i..16 * i + 16]);
     }
     Space {
         number: 0,
@@ -41,9 +41,9 @@ pub fn space_at(table: &[u8], i: usize) -> Space
     }
 }
 
-// The space in the first sixteen bytes.
-pub fn space_in(row: &[u8]) -> Space
-    requires { 16 ≤ length row.now }
+// The space in a row of sixteen bytes.
+fn space_in(row: &[u8]) -> Space
+    requires { length row.now ≡ 16 }
     ensures { result ≡ row_at row.now 0 }
 {
     Space {

@@ -34,7 +34,7 @@ use Rattle.reply_datagram.specs.Replies.{read_reply, failed_read, failed_write, 
 use Rattle.reply_datagram.specs.Inquiry.{options_reply, access_flag, absent_reply, information_reply}
 use Rattle.space_reach.specs.Reach.{ReachResult, access}
 use Rattle.space_reach.proofs.Laws.{reached}
-use Rattle.reply_answer.specs.Answers.{code_of, received_ok_reply, transport_of}
+use Rattle.reply_answer.specs.Answers.{received_ok_reply, transport_of}
 use Rattle.reply_answer.specs.declared.Answer.{Answer}
 use Rattle.reply_answer.specs.declared.Answer.TheVariants as answered
 use Rattle.exec_spec.specs.Access.{bytes_read, read_result, write_result}
@@ -154,7 +154,7 @@ code_read board tool code =
 
 acknowledged : (board tool : ℕ) (a : Answer) → Each (Acknowledges a) (transport_frames board tool (transport_of a))
 unfolding frame_of read_received
-acknowledged board tool (answered.Rejected reason) = code_read board tool (code_of reason)
+acknowledged board tool (answered.Rejected code) = code_read board tool code
 acknowledged board tool (answered.Written index n) = ok_read board tool 0x00 (λ f. read_received (content_of f) ≡ Some (received false 0)) refl
 acknowledged board tool answered.UpdateComplete = ok_read board tool 0x00 (λ f. read_received (content_of f) ≡ Some (received false 0)) refl
 acknowledged board tool (answered.Replied n) = ok_read board tool 0x80 (λ f. read_received (content_of f) ≡ Some (received true 0)) refl

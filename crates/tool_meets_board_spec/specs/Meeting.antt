@@ -7,7 +7,7 @@ use Rattle.cmd_fields.specs.Commands.{Request}
 use Rattle.cmd_fields.specs.declared.Form.{Form}
 use Rattle.cmd_decode.specs.Decoding.{request, decode}
 use Rattle.call_error.specs.CallErrors.{description_check}
-use Rattle.reply_answer.specs.Answers.{code_of, Answered, datagram_rejected, written, update_completed, received_ok_reply, rejected_code, transport_of}
+use Rattle.reply_answer.specs.Answers.{Answered, datagram_rejected, written, update_completed, received_ok_reply, rejected_code, transport_of}
 use Rattle.reply_answer.specs.declared.Answer.{Answer}
 use Rattle.reply_answer.specs.declared.Answer.TheVariants as answered
 use Rattle.exec_spec.specs.Performing.{Fixed, Contents, perform}
@@ -21,7 +21,7 @@ use Rattle.tool_read_ack.specs.Receipt.{received, rejection, read_received, read
 -- Where an answer has a reply, the reader finds in its bytes the very fields that it is given by. The other answers
 -- have none to read.
 abbrev pub ReadBack : Answered Reply → Type 0
-ReadBack (datagram_rejected rejection) = Unit {0}
+ReadBack (datagram_rejected code) = Unit {0}
 ReadBack (written index n) = Unit {0}
 ReadBack update_completed = Unit {0}
 ReadBack (received_ok_reply reply) = reply_found (find_reply (reply_bytes reply)) (reply_bytes reply) ≡ Some reply
@@ -43,7 +43,7 @@ content_of f = drop 2 (take f.len f.bytes)
 
 -- A reply is pending if there is one, no timeout is given, and no byte stands behind a code.
 abbrev pub Acknowledges : Answer → Frame → Type 0
-Acknowledges (answered.Rejected reason) f = read_rejection (content_of f) ≡ Some (rejection (code_of reason) (span 2 0))
+Acknowledges (answered.Rejected code) f = read_rejection (content_of f) ≡ Some (rejection code (span 2 0))
 Acknowledges (answered.Written index n) f = read_received (content_of f) ≡ Some (received false 0)
 Acknowledges answered.UpdateComplete f = read_received (content_of f) ≡ Some (received false 0)
 Acknowledges (answered.Replied n) f = read_received (content_of f) ≡ Some (received true 0)

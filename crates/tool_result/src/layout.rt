@@ -18,10 +18,8 @@ pub fn put_composed(numbers: Composed, composed: &mut [u8; 16])
 pub fn put_acknowledged(numbers: Acknowledged, acknowledged: &mut [u8; 8])
     ensures { acknowledged.new ≡ acknowledged_bytes numbers }
 {
-    *acknowledged = [0; 8];
-    acknowledged[0..4].copy_from_slice(&numbers.refusal.to_le_bytes());
-    acknowledged[4] = numbers.pending as u8;
-    acknowledged[5] = numbers.timeout;
+    let [r0, r1, r2, r3] = numbers.refusal.to_le_bytes();
+    *acknowledged = [r0, r1, r2, r3, numbers.pending as u8, numbers.timeout, 0, 0];
 }
 
 fn range_bytes(range: ByteRange) -> [u8; 24]
@@ -37,9 +35,10 @@ fn range_bytes(range: ByteRange) -> [u8; 24]
 pub fn put_rejection(rejection: RejectionFields, out: &mut [u8; 32])
     ensures { out.new ≡ rejection_bytes rejection }
 {
+    let [r0, r1, r2, r3] = rejection.refusal.to_le_bytes();
+    let [low, high] = rejection.code.to_le_bytes();
     *out = [0; 32];
-    out[0..4].copy_from_slice(&rejection.refusal.to_le_bytes());
-    out[4..6].copy_from_slice(&rejection.code.to_le_bytes());
+    out[0..8].copy_from_slice(&[r0, r1, r2, r3, low, high, 0, 0]);
     out[8..32].copy_from_slice(&range_bytes(rejection.further));
 }
 

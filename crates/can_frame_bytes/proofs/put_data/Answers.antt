@@ -7,7 +7,7 @@ use Rattle.can_frame_bytes.proofs.put_data.Goals as goal
 pub returns-then-part-eq8 : goal.returns-then-part-eq8
 returns-then-part-eq8 c =
     let a = c.args in
-    data-eight a.part.now a.frame.now (omega arith) (omega arith) c.copy_from_slice.ensures.after
+    data-eight a.part.now a.frame.now (omega arith) (omega arith) c.put.ensures c.put-then-part-eq8.ensures
 
 pub returns : goal.returns
-returns c = data-few _ _ (omega arith) c.put.ensures (omega arith) c.put-2.ensures
+returns c = data-few _ _ (omega arith) c.put-2.ensures (omega arith) c.put-3.ensures

@@ -10,7 +10,7 @@ use Rattle.exec_datagram.proofs.handle.Goals as goal
 pub returns-in-Err-clause-performs : goal.returns-in-Err-clause-performs
 unfolding handle
 returns-in-Err-clause-performs c =
-    rw (← c.decode.ensures, c.in-Err.is)
+    rw (← c.decode.ensures, c.in-Err.is, ← c.code_of.ensures)
     (record { answer = record { answer = refl; buffer = refl }; contents = refl; short = tt })
 
 pub returns-in-Err-clause-bounds : goal.returns-in-Err-clause-bounds

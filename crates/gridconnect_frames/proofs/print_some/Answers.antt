@@ -5,6 +5,7 @@ use mathlib.Core.Path.{◌≡◌, sym, ap, ◌∙◌}
 use native.Mathlib.Omega.{arith}
 use lib.ListN.{length}
 use Rattle.buffer.proofs.Laws.{put_nil}
+use Rattle.can_frame_bytes.proofs.LayoutLaws.{frame-whole}
 use Rattle.gridconnect_frames.specs.Printing.{frames_from, frames_text}
 use Rattle.gridconnect_frames.proofs.PrintingLaws.{print_none, print_next}
 use Rattle.gridconnect_frames.proofs.print_some.Goals as goal
@@ -14,7 +15,7 @@ loop-i-preserved c =
     let l = c.loop-i in
     let a = c.args in
     let start : l.i * 16 % 2 ^ 64 ≡ 16 * l.i = omega arith in
-    let m = print_next a.frames.now l.out l.i a.n l.end (omega arith) (omega arith) (rw start at c.frame_at-frame.ensures) c.print_frame-end.ensures l.invariant.2 l.invariant.3 in
+    let m = print_next a.frames.now l.out l.i a.n l.end (omega arith) (omega arith) (rw start at c.frame_at-frame.ensures ∙ frame-whole a.frames.now (16 * l.i) (omega arith)) c.print_frame-end.ensures l.invariant.2 l.invariant.3 in
     (m.0 ∙ l.invariant.0, omega arith, m.2, m.3)
 
 pub returns : goal.returns

@@ -25,8 +25,8 @@ returns-in-Ok-Nothing c =
 pub returns-in-Ok-TransportRefusal : goal.returns-in-Ok-TransportRefusal
 unfolding frames_to_send
 returns-in-Ok-TransportRefusal c =
-    let e : c.in-Ok-TransportRefusal.field-0 ≡ TransportRefusal c.in-Ok-TransportRefusal.refusal = rw c.in-Ok-TransportRefusal.is at c.in-Ok-TransportRefusal.field-0-is in
-    rw (c.in-Ok-TransportRefusal.is, e, ← c.code.ensures) (made_rejected _ _ _ (c.rejected.ensures.count, c.rejected.ensures.bytes))
+    let e : c.in-Ok-TransportRefusal.field-0 ≡ TransportRefusal c.in-Ok-TransportRefusal.code = rw c.in-Ok-TransportRefusal.is at c.in-Ok-TransportRefusal.field-0-is in
+    rw (c.in-Ok-TransportRefusal.is, e) (made_rejected _ _ _ (c.rejected.ensures.count, c.rejected.ensures.bytes))
 
 pub returns-in-Ok-Answered : goal.returns-in-Ok-Answered
 unfolding frames_to_send

@@ -6,7 +6,7 @@ use Rattle.node_send.proofs.send_answer.Goals as goal
 pub returns-in-Rejected : goal.returns-in-Rejected
 returns-in-Rejected c =
     let a = c.args in
-    answer-rejected a.board a.tool a.reply.now c.in-Rejected.is c.code_of.ensures (c.rejected.ensures.count, c.rejected.ensures.bytes)
+    answer-rejected a.board a.tool a.reply.now c.in-Rejected.is (c.rejected.ensures.count, c.rejected.ensures.bytes)
 
 pub returns-in-Written : goal.returns-in-Written
 returns-in-Written c =

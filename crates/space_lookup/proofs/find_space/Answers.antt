@@ -2,6 +2,7 @@
 -- Assumes nothing.
 use Rattle.std.proofs.Common.{arith, sym, ap, ◌≡◌, ◌∙◌, length}
 use Rattle.space_table.specs.Table.{spaces_in}
+use Rattle.space_table.proofs.TableLaws.{space-in}
 use Rattle.space_lookup.specs.Description.{find_space}
 use Rattle.space_lookup.proofs.Laws.{find_hit, find_miss, find_none}
 use Rattle.space_lookup.proofs.find_space.Goals as goal
@@ -11,7 +12,7 @@ returns-then-row-number c =
     let n = c.args.number in
     let step = c.in-Some.ensures.steps.1 in
     let six : length c.in-Some.row.now ≡ 16 = step.1 ∙ c.loop-row.invariant.size in
-    rw c.space_in.ensures (sym (c.loop-row.invariant.left ∙ ap (λ t. find_space (spaces_in t) n) step.0 ∙ find_hit _ _ six n c.if-row-number.true))
+    rw (c.space_at.ensures, space-in c.in-Some.row.now 0 (omega (arith, six))) (sym (c.loop-row.invariant.left ∙ ap (λ t. find_space (spaces_in t) n) step.0 ∙ find_hit _ _ six n c.if-row-number.true))
 
 pub loop-row-preserved : goal.loop-row-preserved
 loop-row-preserved c =

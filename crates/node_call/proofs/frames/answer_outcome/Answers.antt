@@ -12,7 +12,7 @@ pub returns-in-NoAnswer : goal.returns-in-NoAnswer
 returns-in-NoAnswer c = rw c.in-NoAnswer.is (λ st. record { answer = refl; reply = refl; contents = refl; short = tt })
 
 pub returns-in-TransportRefusal : goal.returns-in-TransportRefusal
-returns-in-TransportRefusal c = rw c.in-TransportRefusal.is (λ st. record { answer = refl; reply = refl; contents = refl; short = tt })
+returns-in-TransportRefusal c = rw (c.in-TransportRefusal.is, c.code.ensures) (λ st. record { answer = refl; reply = refl; contents = refl; short = tt })
 
 pub returns-in-InFrame : goal.returns-in-InFrame
 returns-in-InFrame c = rw c.in-InFrame.is c.answer_datagram.ensures
