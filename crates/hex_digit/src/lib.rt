@@ -11,11 +11,13 @@ pub fn value_of(c: u8) -> u8
     ensures { result ≡ digit_value c }
 {
     let decimal = c.wrapping_sub(b'0');
+    let letter = c.wrapping_sub(b'A');
     if decimal < 10 {
         decimal
+    } else if letter < 6 {
+        letter + 10
     } else {
-        let letter = c.wrapping_sub(b'A');
-        if letter < 6 { letter + 10 } else { 16 }
+        16
     }
 }
 
