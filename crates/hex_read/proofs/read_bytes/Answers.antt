@@ -1,7 +1,7 @@
 -- `read_bytes` meets its contract. The invariant: what is left decides whether all are digits, and if they are, storing its bytes makes
 -- the bytes of the whole.
 -- Assumes nothing.
-use Prim.Native.Nat.{ℕ, ◌+◌, ◌*◌, ◌-◌, ◌/◌, ◌%◌, ◌≤◌, ◌<◌}
+use Prim.Native.Nat.{ℕ, ◌+◌, ◌*◌, ◌-◌, ◌%◌, ◌≤◌, ◌<◌}
 use mathlib.Core.Path.{◌≡◌, sym, ap, ◌∙◌}
 use mathlib.Core.Bool.{true, false}
 use mathlib.Core.List.{List, [], ◌++◌}
@@ -89,29 +89,28 @@ returns-then-size-gt16 c = record {
   printed_again = bytes-again;
 }
 
-pub loop-n-preserved : goal.loop-n-preserved
-loop-n-preserved c =
+pub loop-i-preserved : goal.loop-i-preserved
+loop-i-preserved c =
     let s = c.args.text.now in
-    let l = c.loop-n in
+    let l = c.loop-i in
     let v = even s c.if-size-ne0.false in
-    let i = l.n + l.n in
-    let h : i + 1 < length s = omega arith in
+    let h : l.i + 1 < length s = omega arith in
     let x = c.value_of-high.result in
     let y = c.value_of-low.result in
     let ex = c.value_of-high.ensures in
-    let ey = c.value_of-low.ensures in
-    let e : l.n + 1 + (l.n + 1) ≡ i + 2 = omega arith in
-    rw e (
-      both s i l.worst x y h ex ey l.invariant.0,
-      λ t. rw c.byte_of.ensures (stored s i l.worst x y h ex ey l.invariant.0 l.bytes l.n t) ∙ l.invariant.1 t,
-      sym (counted s i l.n h) ∙ l.invariant.2,
+    let ey = c.value_of-low.ensures in (
+      omega arith,
+      omega arith,
+      both s l.i l.worst x y h ex ey l.invariant.2,
+      λ t. rw c.byte_of.ensures (stored s l.i l.worst x y h ex ey l.invariant.2 l.bytes l.n t) ∙ l.invariant.3 t,
+      sym (counted s l.i l.n h) ∙ l.invariant.4,
     )
 
 pub returns-then-worst-gt15 : goal.returns-then-worst-gt15
 returns-then-worst-gt15 c =
     let s = c.args.text.now in
-    let l = c.loop-n in
-    let f = one-bad s (l.n + l.n) l.worst l.invariant.0 c.if-worst-gt15.true in
+    let l = c.loop-i in
+    let f = one-bad s l.i l.worst l.invariant.2 c.if-worst-gt15.true in
     record {
       value = no-digits s c.if-size-gt16.false (even s c.if-size-ne0.false) f;
       read_back = bytes-read-back;
@@ -121,10 +120,7 @@ returns-then-worst-gt15 c =
 pub returns : goal.returns
 returns c =
     let s = c.args.text.now in
-    let l = c.loop-n in
-    let v = even s c.if-size-ne0.false in
-    let i = l.n + l.n in
-    let t = all-good s i l.worst l.invariant.0 (omega arith) (omega arith) in
-    let n : length s / 2 ≡ l.n = omega arith in
-    let w = whole s c.if-size-gt16.false v l.bytes l.n i (omega arith) t in
-    record { value = rw n (w (l.invariant.1 t) l.invariant.2); read_back = bytes-read-back; printed_again = bytes-again }
+    let l = c.loop-i in
+    let t = all-good s l.i l.worst l.invariant.2 (omega arith) (omega arith) in
+    let w = whole s c.if-size-gt16.false (even s c.if-size-ne0.false) l.bytes l.n l.i (omega arith) t in
+    record { value = w (l.invariant.3 t) l.invariant.4; read_back = bytes-read-back; printed_again = bytes-again }

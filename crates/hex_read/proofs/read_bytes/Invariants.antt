@@ -1,4 +1,4 @@
-use Prim.Native.Nat.{◌+◌}
+use Prim.Native.Nat.{◌+◌, ◌*◌, ◌-◌, ◌≤◌}
 use mathlib.Core.Path.{◌≡◌}
 use mathlib.Core.Bool.{true}
 use lib.ListN.{length, drop, replicate}
@@ -8,8 +8,13 @@ use Rattle.hex_read.specs.Reading.{bytes_in}
 use Rattle.hex_read.proofs.ReadLaws.{Passed}
 use Rattle.hex_read.proofs.read_bytes.Given as goal
 
-abbrev pub invariant-loop-n : goal.invariant-loop-n
-invariant-loop-n l =
-    Passed l.text (l.n + l.n) l.worst
-    × (all_digits l.text ≡ true → sets l.bytes l.n (bytes_in (drop (l.n + l.n) l.text)) ≡ sets (replicate 8 0) 0 (bytes_in l.text))
-    × (l.n + length (bytes_in (drop (l.n + l.n) l.text)) ≡ length (bytes_in l.text))
+abbrev pub invariant-loop-i : goal.invariant-loop-i
+invariant-loop-i l =
+    (l.i ≡ l.n * 2)
+    × (l.i ≤ length l.text)
+    × Passed l.text l.i l.worst
+    × (all_digits l.text ≡ true → sets l.bytes l.n (bytes_in (drop l.i l.text)) ≡ sets (replicate 8 0) 0 (bytes_in l.text))
+    × (l.n + length (bytes_in (drop l.i l.text)) ≡ length (bytes_in l.text))
+
+abbrev pub decreases-loop-i : goal.decreases-loop-i
+decreases-loop-i l = length l.text - l.i
