@@ -13,7 +13,7 @@ import subprocess
 import sys
 
 # The most bytes of code and constants of the whole archive on a Cortex-M0. A change that needs more raises this number, and says so.
-SIZE_LIMIT = 15000
+SIZE_LIMIT = 13900
 
 GROUPS = (
     ("a board on a bus: `bujorelm_handle_frame`, `bujorelm_handle_tick`", ("handle_frame", "handle_tick", "version")),
