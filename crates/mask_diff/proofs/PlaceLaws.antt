@@ -1,4 +1,4 @@
--- The first and the last byte that differ, by the places of pairs of bytes.
+-- The first and the last byte that differ, one place after another.
 -- Assumes nothing.
 use Prim.Native.Nat.{ℕ, zero, suc, ◌+◌, ◌-◌, ◌≤◌, ◌<◌}
 use mathlib.Core.Path.{◌≡◌, refl, sym, ap, ◌∙◌}
@@ -6,20 +6,18 @@ use mathlib.Core.Bool.{Bool, true, false, not, cond, ◌||◌}
 use mathlib.Core.List.{List, [], ◌∷◌}
 use native.Mathlib.Omega.{arith}
 use lib.Dec.{eqb, ltb}
-use lib.ListN.{length, drop, get_or, length-drop}
-use borrow.Author.Tests.{eqb-true, eqb-false, ltb-true, ltb-false, lt-ltb, le-ltb}
-use Rattle.std.specs.Prelude.{Option, Some, None, reverse}
-use Rattle.std.specs.Option.{unwrap_or}
-use Rattle.std.specs.List.{zip, position_or_len}
-use Rattle.std.proofs.lemmas.List.{get_or_past, get_or-reverse, length-reverse}
-use Rattle.std.proofs.lemmas.List.Sums.{prefix_len-le-length, fails_before_first, passes_at_first}
-use Rattle.std.proofs.lemmas.Slice.Zip.{length-zip, get_or-zip}
+use lib.ListN.{length, drop, get_or}
+use lib.Seq.{drop-cons}
+use native.Mathlib.Numerals.{add-one}
+use borrow.Author.Tests.{eq-eqb, ne_eqb, eqb-true, eqb-false, ltb-true, ltb-false, lt-ltb, le-ltb}
+use Rattle.std.specs.Prelude.{Some, None}
+use Rattle.std.proofs.lemmas.List.{get_or_past}
 use Rattle.buffer.proofs.Choice.{by-test}
 use Rattle.cmd_fields.specs.Commands.{Pair}
 use Rattle.mask_combine.specs.Combining.{untouched}
 use Rattle.mask_diff_spec.specs.Differences.{change_of, difference, touches, before_first, up_to_last, start_from}
 use Rattle.mask_diff_spec.proofs.ByteLaws.{same_byte, other_byte}
-use Rattle.mask_diff_spec.proofs.DifferenceLaws.{difference-length, difference-at, difference-drop}
+use Rattle.mask_diff_spec.proofs.DifferenceLaws.{difference-length, difference-at}
 use Rattle.mask_diff.specs.Changes.{first_from}
 
 -- whether an old byte and a new one differ
@@ -29,42 +27,6 @@ differ p = not (eqb p.0 p.1)
 touches-differ : (o n : ℕ) → touches (change_of o n) ≡ differ (o, n)
 touches-differ o n =
     by-test (eqb o n) (λ t. same_byte o n (eqb-true o n t) ∙ sym (ap not t)) (λ f. other_byte o n (eqb-false o n f) ∙ sym (ap not f))
-
--- ---- the first
-
-step : (t : Bool) (a b : ℕ) → a ≡ b → cond t 0 (suc a) ≡ cond (not t) (1 + b) 0
-step true a b e = refl
-step false a b e = omega arith
-
-first-place : (old new : List ℕ) → length old ≡ length new → before_first (difference old new) ≡ position_or_len differ (zip old new)
-unfolding difference before_first
-first-place [] new h = refl
-first-place (o ∷ old) [] h = absurd (omega arith)
-first-place (o ∷ old) (n ∷ new) h = rw (touches-differ o n) (step (differ (o, n)) _ _ (first-place old new (omega arith)))
-
-module _ (old new : List ℕ) (size : length old ≡ length new) (from : ℕ) where
-  abbrev place : ℕ
-  place = position_or_len differ (zip (drop from old) (drop from new))
-
-  abbrev left : ℕ
-  left = length (zip (drop from old) (drop from new))
-
-  start-at : start_from from (difference old new) ≡ from + place
-  start-at = let a = length-drop from old in let b = length-drop from new in
-      ap (λ (l : List Pair). from + before_first l) (difference-drop from old new size)
-      ∙ ap (λ (k : ℕ). from + k) (first-place (drop from old) (drop from new) (omega arith))
-
-  left-is : left ≡ length old - from
-  left-is = length-zip (drop from old) (drop from new) ∙ rw (length-drop from old, length-drop from new, size) (omega arith)
-
-  pub past-end : length old < from → None ≡ first_from from (difference old new)
-  past-end h = let n = difference-length old new size in rw (le-ltb (start_from from (difference old new)) (length (difference old new)) (omega arith)) refl
-
-  pub first-none : None ≡ cond (ltb place left) (Some place) None → None ≡ first_from from (difference old new)
-  first-none e = let n = difference-length old new size in let s = start-at in let l = left-is in grind arith
-
-  pub first-some : (i : ℕ) → Some i ≡ cond (ltb place left) (Some place) None → Some (from + i) ≡ first_from from (difference old new)
-  first-some i e = let n = difference-length old new size in let s = start-at in let l = left-is in grind arith
 
 -- ---- the last
 
@@ -82,38 +44,63 @@ is-last (p ∷ e) (suc (suc k)) h none some =
     go false = rw (lt-ltb 0 (suc k) (omega arith))
 
 module _ (old new : List ℕ) (size : length old ≡ length new) where
-  abbrev pairs : List (ℕ × ℕ)
-  pairs = zip (reverse old) (reverse new)
+  pair-at : (i : ℕ) → i < length old → touches (get_or (difference old new) i untouched) ≡ differ (get_or old i 0, get_or new i 0)
+  pair-at i h = ap touches (difference-at old new i size h) ∙ touches-differ (get_or old i 0) (get_or new i 0)
 
-  abbrev behind : ℕ
-  behind = position_or_len differ pairs
+  pub same-at : (i : ℕ) → i < length old → get_or old i 0 ≡ get_or new i 0 → touches (get_or (difference old new) i untouched) ≡ false
+  same-at i h e = pair-at i h ∙ ap not (eq-eqb (get_or old i 0) (get_or new i 0) e)
 
-  pairs-length : length pairs ≡ length old
-  pairs-length = length-zip (reverse old) (reverse new) ∙ rw (length-reverse old, length-reverse new, size) (omega arith)
+  pub other-at : (i : ℕ) → i < length old → (get_or old i 0 ≡ get_or new i 0 → ⊥) → touches (get_or (difference old new) i untouched) ≡ true
+  other-at i h f = pair-at i h ∙ ap not (ne_eqb (get_or old i 0) (get_or new i 0) f)
 
-  -- a pair from the end is that of the two bytes there
-  from-end : (k : ℕ) → k < length old → touches (get_or (difference old new) (length old - 1 - k) untouched) ≡ differ (get_or pairs k (0, 0))
-  from-end k h =
-      let a = length-reverse old in
-      let b = length-reverse new in
-      ap touches (difference-at old new (length old - 1 - k) size (omega arith)) ∙ touches-differ (get_or old (length old - 1 - k) 0) (get_or new (length old - 1 - k) 0)
-      ∙ sym (ap differ (get_or-zip (reverse old) (reverse new) k (0, 0) (omega arith) (omega arith)) ∙ rw (get_or-reverse old k 0 h, get_or-reverse new k 0 (omega arith), ← size))
+  pub none-past : (i : ℕ) → length old ≤ i → touches (get_or (difference old new) i untouched) ≡ false
+  none-past i h = let n = difference-length old new size in ap touches (get_or_past (difference old new) i untouched (omega arith))
 
-  none-behind : (i : ℕ) → length old - behind ≤ i → touches (get_or (difference old new) i untouched) ≡ false
-  none-behind i h =
+  -- one place more from the end
+  pub none-from : (k : ℕ) → 0 < k → k ≤ length old → get_or old (k - 1) 0 ≡ get_or new (k - 1) 0 →
+      ((i : ℕ) → k ≤ i → touches (get_or (difference old new) i untouched) ≡ false) →
+      (i : ℕ) → k - 1 ≤ i → touches (get_or (difference old new) i untouched) ≡ false
+  none-from k z h e none i l =
+      by-test (ltb i k)
+      (λ t. let b = ltb-true i k t in let at : k - 1 ≡ i = omega arith in rw at at (same-at (k - 1) (omega arith) e))
+      (λ f. none i (ltb-false i k f))
+
+  pub last-at : (k : ℕ) → 0 < k → k ≤ length old → (get_or old (k - 1) 0 ≡ get_or new (k - 1) 0 → ⊥) →
+      ((i : ℕ) → k ≤ i → touches (get_or (difference old new) i untouched) ≡ false) → k - 1 + 1 ≡ up_to_last (difference old new)
+  last-at k z h e none =
       let n = difference-length old new size in
-      let at : i < length old → touches (get_or (difference old new) i untouched) ≡ false =
-      λ l. let j : length old - 1 - (length old - 1 - i) ≡ i = omega arith in
-      rw j at (from-end (length old - 1 - i) (omega arith) ∙ fails_before_first differ pairs (length old - 1 - i) (0, 0) (omega arith)) in
-      by-test (ltb i (length old)) (λ t. at (ltb-true i (length old) t)) (λ f. ap touches (get_or_past (difference old new) i untouched (omega (arith, ltb-false i (length old) f))))
+      let one : k - 1 + 1 ≡ k = omega arith in
+      one ∙ sym (is-last (difference old new) k (omega arith) none (λ j q. let at : k - 1 ≡ j = omega arith in rw at at (other-at (k - 1) (omega arith) e)))
 
-  pub last-place : {same : Option ℕ} → same ≡ cond (ltb behind (length pairs)) (Some behind) None → {n : ℕ} → n ≡ unwrap_or same (length old) →
-      length old - n ≡ up_to_last (difference old new)
-  last-place e q =
-      let l = pairs-length in
-      let m = prefix_len-le-length (λ x. not (differ x)) pairs in
-      let n = difference-length old new size in
-      let r : behind ≡ unwrap_or (cond (ltb behind (length pairs)) (Some behind) None) (length old) = grind arith in
-      rw (q, e, ← r) (sym (is-last (difference old new) (length old - behind) (omega arith) none-behind (λ j s.
-      let k : length old - 1 - behind ≡ j = omega arith in
-      rw k at (from-end behind (omega arith) ∙ passes_at_first differ pairs (0, 0) (omega arith)))))
+  pub none-last : (k : ℕ) → k ≡ 0 → ((i : ℕ) → k ≤ i → touches (get_or (difference old new) i untouched) ≡ false) → 0 ≡ up_to_last (difference old new)
+  none-last k z none = sym (is-last (difference old new) 0 (omega arith) (λ i l. none i (omega arith)) (λ j q. absurd (omega arith)))
+
+-- ---- the first
+
+module _ (old new : List ℕ) (size : length old ≡ length new) where
+  abbrev e : List Pair
+  e = difference old new
+
+  here : (i : ℕ) → i < length old → drop i e ≡ get_or e i untouched ∷ drop (i + 1) e
+  here i h = let n = difference-length old new size in drop-cons e i untouched (omega arith) ∙ rw (← add-one i)
+
+  found-here : (i : ℕ) → i < length old → (get_or old i 0 ≡ get_or new i 0 → ⊥) → start_from i e ≡ i
+  unfolding before_first
+  found-here i h f = rw (here i h, other-at old new size i h f) (omega arith)
+
+  -- one place more
+  pub found-later : (i : ℕ) → i < length old → get_or old i 0 ≡ get_or new i 0 → start_from i e ≡ start_from (i + 1) e
+  unfolding before_first
+  found-later i h s = rw (here i h, same-at old new size i h s) (omega arith)
+
+  module _ (from i : ℕ) (q : start_from from e ≡ start_from i e) where
+    pub first-some : i < length old → (get_or old i 0 ≡ get_or new i 0 → ⊥) → Some i ≡ first_from from e
+    first-some h f =
+        let n = difference-length old new size in
+        let s : start_from from e ≡ i = q ∙ found-here i h f in
+        rw (s, lt-ltb i (length e) (omega arith)) refl
+
+    pub first-none : length old ≤ i → None ≡ first_from from e
+    first-none h =
+        let n = difference-length old new size in
+        rw (le-ltb (start_from from e) (length e) (omega (arith, q))) refl

@@ -32,32 +32,35 @@ pub enum DiffError {
     BufferTooShort,
 }
 
-// The index of the first byte that differs, at or after `from`.
+// The index of the first byte that differs, at or after `from`. By index here and below: `zip` asks both images where they
+// end, and a byte took more instructions.
 fn first_change(old: &[u8], new: &[u8], from: usize) -> Option<usize>
     requires { length old.now ≡ length new.now }
     ensures first { result ≡ first_from from (difference old.now new.now) }
     ensures inside { IfSome result (λ i. i < length old.now) }
 {
-    let i = old
-        .get(from..)?
-        .iter()
-        .zip(new.get(from..)?)
-        .position(|(o, n)| o != n)?;
-    Some(from + i)
+    for i in from..old.len() {
+        if old[i] != new[i] {
+            return Some(i);
+        }
+    }
+    None
 }
 
-// How many bytes there are up to the last that differs: all but those at the end that are the same.
+// How many bytes there are up to the last that differs: all but those at the end that are the same. It is kept apart:
+// beside it the search for the first would have more to keep than there are registers for.
+#[inline(never)]
 fn count_changes(old: &[u8], new: &[u8]) -> usize
     requires { length old.now ≡ length new.now }
     ensures last { result ≡ up_to_last (difference old.now new.now) }
     ensures inside { result ≤ length old.now }
 {
-    let same = old
-        .iter()
-        .rev()
-        .zip(new.iter().rev())
-        .position(|(o, n)| o != n);
-    old.len() - same.unwrap_or(old.len())
+    for i in (0..old.len()).rev() {
+        if old[i] != new[i] {
+            return i + 1;
+        }
+    }
+    0
 }
 
 // The pairs of two images, in front of a buffer.
