@@ -26,7 +26,7 @@ row-same s t i j f =
     λ at h. number-same s t (16 * i + at) (16 * j + at) (λ k below. rw (add_assoc, add_assoc) (f (at + k) (omega arith))) in
     rw (z, f 1 (omega arith), f 2 (omega arith), n 4 (omega arith), n 8 (omega arith), n 12 (omega arith))
 
-row-drop : (t : List ℕ) (i : ℕ) → row_at (drop (16 * i) t) 0 ≡ row_at t i
+pub row-drop : (t : List ℕ) (i : ℕ) → row_at (drop (16 * i) t) 0 ≡ row_at t i
 row-drop t i = row-same (drop (16 * i) t) t 0 i (λ k h. get_or-drop (16 * i) t (0 + k) 0 ∙ ap (λ n. get_or t n 0) (omega arith))
 
 pub row-slice : (t : List ℕ) (i n : ℕ) → n ≡ 16 → row_at (take n (drop (16 * i) t)) 0 ≡ row_at t i
